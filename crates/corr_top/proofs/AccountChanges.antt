@@ -38,22 +38,22 @@ use Rattle.corr_top.specs.declared.account_words.Ends.{Ends}
 use Rattle.corr_top.specs.declared.room.Room.{Room}
 use Rattle.corr_top.specs.declared.room.Tables.{Tables as Files}
 use Rattle.corr_top.specs.declared.status.Status.{Status}
-use Rattle.corr_top.specs.declared.status.Status.TheVariants as status
 use Rattle.corr_top.specs.declared.tables.TableStop.{TableStop}
 use Rattle.corr_top.specs.declared.words.Command.TheVariants.{Plain}
 use Rattle.corr_top.specs.declared.words.Plain.TheVariants.{Change}
 use Rattle.corr_top.specs.declared.writing.Texts.{Texts}
 use Rattle.corr_top.specs.Change.{change_steps}
-use Rattle.corr_top.specs.Changed.{ChangesInTurn, GivesChanged, GivesEntered, HasChanged, IsRowRefused, StopsAtChange, cells_in, lent_in, opened_by, row_fault, what_in}
+use Rattle.corr_top.specs.Changed.{ChangesInTurn, HasChanged, StopsAtChange, cells_in, lent_in, opened_by, row_fault, what_in}
+use Rattle.corr_top.specs.inner.Changed.{GivesChanged, GivesEntered, IsRowRefused}
 use Rattle.corr_top.specs.Commands.{meaning_of}
-use Rattle.corr_top.specs.Ends.{CommandGives, HasTexts}
+use Rattle.corr_top.specs.inner.Ends.{CommandGives, HasTexts}
 use Rattle.corr_top.specs.Inputs.{Inputs, opened}
-use Rattle.corr_top.specs.Meaning.{KeepsRest}
 use Rattle.corr_top.specs.OnDisk.{HasNotFailed, HoldsJournal, IsUnwritten}
 use Rattle.corr_top.specs.Passing.{Passes, StepIsUntouched, StopsAt, table_at}
-use Rattle.corr_top.specs.Steps.{Halts, Step, Walks}
-use Rattle.corr_top.specs.Stops.{status_of_change, status_of_opening, status_of_row, status_of_table}
-use Rattle.corr_top.specs.Tables.{HasLent, LeavesOthers, StopsLent, lent_steps}
+use Rattle.corr_top.specs.Steps.{Step}
+use Rattle.corr_top.specs.Stops.{status_of_opening, status_of_table}
+use Rattle.corr_top.specs.inner.Stops.{status_of_row}
+use Rattle.corr_top.specs.inner.Tables.{HasLent, LeavesOthers, StopsLent, lent_steps}
 use Rattle.corr_top.proofs.AccountRows.{formed}
 use Rattle.corr_top.proofs.Journals.{same_unwritten}
 use Rattle.corr_top.proofs.TableFiles.{no_inputs}
@@ -229,7 +229,7 @@ module _ {S K D : Type 0} (source : sources.Ghosts S) (d : disks.Ghosts D) (old 
     inputs = i;
     are_for = asked;
     gives = gives;
-    rest = record { tables = tables_rest change kept; messages = λ unread. rest.messages; received = λ unread unpacked. rest.received; sent = λ unread. rest.sent; disk2 = λ unread. rest.disk2 };
+    rest = record { tables = tables_rest change kept; messages = λ unread unserved. rest.messages; received = λ unread unpacked. rest.received; sent = λ unread. rest.sent; disk2 = λ unread. rest.disk2 };
     report = rest.report;
     out = rest.out;
   }

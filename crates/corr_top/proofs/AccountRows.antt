@@ -20,7 +20,7 @@ use Rattle.day_model.specs.declared.fault.AccountsFault.TheVariants.{Unbalanced,
 use Rattle.day_model.specs.Gap.{TellsUnbalanced}
 use Rattle.std.specs.Prelude.{Result, Ok, Err, IfErr}
 use Rattle.corr_money.specs.Amounts.{amount_end}
-use Rattle.corr_top.specs.Passing.{TellsDecimals}
+use Rattle.corr_top.specs.inner.Passing.{TellsDecimals}
 use Rattle.corr_top.specs.Inputs.{opened}
 
 record Made (rows : List AccountRow) (i : ℕ) (a : Account) : Type 0 where

@@ -14,9 +14,9 @@ use Rattle.corr_books.specs.Opening.{Opening}
 use Rattle.corr_top.specs.declared.desk.Served.{Served}
 use Rattle.corr_top.specs.declared.desk.Served.TheVariants as served
 use Rattle.corr_top.specs.declared.message.NoPay.{NoPay}
-use Rattle.corr_top.specs.Days.{HasAnswered}
+use Rattle.corr_top.specs.inner.Days.{HasAnswered}
 use Rattle.corr_top.specs.Message.{pays_in, replies_in, message_reply}
-use Rattle.corr_top.specs.Serving.{AreServedInOrder, AreTold, are_replies}
+use Rattle.corr_top.specs.inner.Serving.{AreServedInOrder, AreTold, are_replies}
 use Rattle.corr_top.proofs.Replying.{all_one, names_place}
 
 -- a message with a reply, for each of them

@@ -9,17 +9,18 @@ use Rattle.corr_top.specs.declared.words.Plain.TheVariants as plain
 use Rattle.corr_top.specs.declared.words.Query.{Query}
 use Rattle.corr_top.specs.declared.writing.Texts.{Texts}
 use Rattle.corr_top.specs.Commands.{meaning_of}
-use Rattle.corr_top.specs.Ends.{HasTexts}
+use Rattle.corr_top.specs.inner.Ends.{HasTexts}
 use Rattle.corr_top.specs.Meaning.{KeepsRest}
 use Rattle.corr_top.specs.Passing.{table_at}
-use Rattle.corr_top.specs.Query.{GivesAsked, query_steps}
+use Rattle.corr_top.specs.Query.{query_steps}
+use Rattle.corr_top.specs.inner.Query.{GivesAsked}
 use Rattle.corr_top.proofs.TableFiles.{no_inputs}
 
 -- the disk alone was used
 disk_alone : {S K D : Type 0} (old new : Room S K D) → (new ≡ record old { disk = new.disk }) → KeepsRest query_steps old new
 disk_alone {S} {K} {D} old new rest = record {
   tables = λ name unread. ap (λ (r : Room S K D). table_at name r.tables) rest;
-  messages = λ unread. ap (λ (r : Room S K D). r.messages) rest;
+  messages = λ unread unserved. ap (λ (r : Room S K D). r.messages) rest;
   received = λ unread unpacked. ap (λ (r : Room S K D). r.received) rest;
   sent = λ unread. ap (λ (r : Room S K D). r.sent) rest;
   disk2 = λ unread. ap (λ (r : Room S K D). r.disk2) rest;

@@ -22,12 +22,12 @@ use Rattle.corr_top.specs.declared.desk.Halt.TheVariants as halt
 use Rattle.corr_top.specs.declared.desk.Served.{Served}
 use Rattle.corr_top.specs.declared.desk.Served.TheVariants as served
 use Rattle.corr_top.specs.declared.message.NoPay.{NoPay}
-use Rattle.corr_top.specs.Batching.{IsSoundReading, ServesInTurn, all_made, ask_of, halt_after, halted_by, made_by, made_in, messages_in, stopped_so, why_of}
+use Rattle.corr_top.specs.inner.Batching.{IsSoundReading, ServesInTurn, all_made, ask_of, halt_after, halted_by, made_by, made_in, messages_in, stopped_so, why_of}
 use Rattle.corr_top.specs.Message.{pays_in}
-use Rattle.corr_top.specs.Serving.{Serves, halt_of, served_of}
-use Rattle.corr_top.specs.Workers.{Worker}
+use Rattle.corr_top.specs.inner.Serving.{Serves, halt_of, served_of}
+use Rattle.corr_top.specs.inner.Workers.{Worker}
 use Rattle.corr_top.proofs.Replying.{all_one}
-use Rattle.corr_top.proofs.Batches.{HaveServed, InTurn, ServesBatch, all_counted, each_served, joined, weaker_served}
+use Rattle.corr_top.proofs.Batches.{HaveServed, InTurn, ServesBatch, all_counted, each_served, have_served, joined, weaker_served}
 
 -- ---- sound readings
 
@@ -47,9 +47,9 @@ read_front reading messages at readings so_far =
 
 -- and one more of them
 pub read_more : (reading : List ℕ → Result Pay NoPay) (messages : List (List ℕ)) (at : ℕ) (message : List ℕ) (readings : List (Result Pay NoPay)) (one : Result Pay NoPay) → at < length messages
-    → message ≡ get_or messages at message → one ≡ reading message → readings ≡ map reading (take at messages) → readings ++ one ∷ [] ≡ map reading (take (at + 1) messages)
+    → message ≡ get_or messages at [] → one ≡ reading message → readings ≡ map reading (take at messages) → readings ++ one ∷ [] ≡ map reading (take (at + 1) messages)
 read_more reading messages at message readings one within here is so_far =
-    (λ i. so_far i ++ (is ∙ ap reading here) i ∷ []) ∙ sym (map_more reading messages at message within)
+    (λ i. so_far i ++ (is ∙ ap reading here) i ∷ []) ∙ sym (map_more reading messages at [] within)
 
 -- no more pays than readings
 pub pays_few : (readings : List (Result Pay NoPay)) → length (pays_in readings) ≤ length readings
@@ -232,15 +232,15 @@ module _ (o : Opening) (reading : List ℕ → Result Pay NoPay) (before after :
   abbrev pub ServesAll : Worker → List (List ℕ) → Worker → Made → Type 0
   ServesAll old batch next made = ServesInTurn o (map reading batch) old next (made_in made)
 
-  in_turns : (made : List Made) → AreServed ServesAll before batches after made → AreServed (ServesBatch ServesOne (λ (b : List (List ℕ)). b) made_in) before batches after made
+  in_turns : (made : List Made) → HaveServed ServesAll before batches after made → HaveServed (ServesBatch ServesOne (λ (b : List (List ℕ)). b) made_in) before batches after made
   in_turns made served = weaker_served ServesAll (ServesBatch ServesOne (λ (b : List (List ℕ)). b) made_in) (λ old batch next one is. in_turn_of o reading batch old next (made_in one) is) batches made before after served
 
-  pub message_count : (made : List Made) → AreServed ServesAll before batches after made → length (all_made made) ≡ length messages
+  pub message_count : (made : List Made) → HaveServed ServesAll before batches after made → length (all_made made) ≡ length messages
   message_count made served =
       ap length (sym (joined_made made)) ∙ all_counted ServesOne (λ (b : List (List ℕ)). b) made_in batches made before after (in_turns made served)
       ∙ ap length (joined_messages batches ∙ whole)
 
-  pub messages_served : (made : List Made) → AreServed ServesAll before batches after made → HaveServed ServesOne before messages after (all_made made)
+  pub messages_served : (made : List Made) → HaveServed ServesAll before batches after made → HaveServed ServesOne before messages after (all_made made)
   messages_served made served =
       subst (λ (l : List (List ℕ)). HaveServed ServesOne before l after (all_made made)) (joined_messages batches ∙ whole)
       (subst (λ (l : List Served). HaveServed ServesOne before (joined (map (λ (b : List (List ℕ)). b) batches)) after l) (joined_made made)
@@ -248,11 +248,11 @@ module _ (o : Opening) (reading : List ℕ → Result Pay NoPay) (before after :
 
   module _ {R E : Type 0} (items : R → List Made) where
     pub done_of : (r : Result R E) → IfOk r (λ rs. AreServed ServesAll before batches after (items rs)) → IfOk r (λ rs. HaveServed ServesOne before messages after (all_made (items rs)))
-    done_of (Ok rs) served = messages_served (items rs) served
+    done_of (Ok rs) served = messages_served (items rs) (have_served ServesAll before batches after (items rs) served)
     done_of (Err e) served = tt
 
     pub room_for : (room : ℕ) → length messages ≤ room → (r : Result R E) → IfOk r (λ rs. AreServed ServesAll before batches after (items rs)) → IfOk r (λ rs. length (all_made (items rs)) ≤ room)
-    room_for room enough (Ok rs) served = let count = message_count (items rs) served in omega (arith, count, enough)
+    room_for room enough (Ok rs) served = let count = message_count (items rs) (have_served ServesAll before batches after (items rs) served) in omega (arith, count, enough)
     room_for room enough (Err e) served = tt
 
 -- ---- what became of batches, as what became of messages

@@ -9,17 +9,30 @@ use native.Mathlib.Decide.{dec_lt}
 use Rattle.front_word.proofs.laws.Prefixes.{get_below}
 use Rattle.work_pool.specs.Served.{AreRising, AreServed, ServedWith, StandsIn}
 
--- What is known of jobs that were served, but for which pass had which: a rising list of job numbers for each pass, each job in one of
--- them; and the passes after come of those before by the serves of their lists.
+-- What is known of jobs that were served, but for which pass had which: a list of job numbers for each pass, which rises where there is one
+-- pass, each job in one of them; and the passes after come of those before by the serves of their lists.
 pub record HaveServed {Pass Job Reply : Type 0} (serves : Pass → Job → Pass → Reply → Type 0) (before : List Pass) (jobs : List Job) (after : List Pass) (replies : List Reply) : Type 0 where
   pub lists : List (List ℕ)
   pub one_each : length lists ≡ length before
-  pub rising : (k : ℕ) (numbers : List ℕ) → slice_get lists k ≡ Some numbers → AreRising numbers
+  pub rising : length before ≡ 1 → (k : ℕ) (numbers : List ℕ) → slice_get lists k ≡ Some numbers → AreRising numbers
   pub jobs_only : (k n : ℕ) → StandsIn lists k n → (1 ≤ n) × (n ≤ length jobs)
   pub every_job : (n : ℕ) → 1 ≤ n → n ≤ length jobs → (k : ℕ) × StandsIn lists k n
   pub passes : length after ≡ length before
   pub replies_count : length replies ≡ length jobs
   pub served : (k : ℕ) (numbers : List ℕ) (pass next : Pass) → slice_get lists k ≡ Some numbers → slice_get before k ≡ Some pass → slice_get after k ≡ Some next → ServedWith serves jobs replies numbers pass next
+
+-- jobs that were dealt out in turn
+pub have_served : {Pass Job Reply : Type 0} (serves : Pass → Job → Pass → Reply → Type 0) (before : List Pass) (jobs : List Job) (after : List Pass) (replies : List Reply) → AreServed serves before jobs after replies → HaveServed serves before jobs after replies
+have_served serves before jobs after replies s = record {
+  lists = s.lists;
+  one_each = s.dealt.one_each;
+  rising = λ one k numbers at. s.dealt.rising k numbers at;
+  jobs_only = s.dealt.jobs_only;
+  every_job = s.dealt.every_job;
+  passes = s.passes;
+  replies_count = s.replies_count;
+  served = s.served;
+}
 
 -- ---- lists of lists
 
@@ -60,12 +73,12 @@ start_grows (n ∷ sizes) zero b le = omega arith
 start_grows (n ∷ sizes) (suc a) zero le = absurd (omega (arith, le))
 start_grows (n ∷ sizes) (suc a) (suc b) le = let r = start_grows sizes a b (omega (arith, le)) in omega (arith, r)
 
-get_front : {A : Type 0} (xs ys : List A) (i : ℕ) (x : A) → slice_get xs i ≡ Some x → slice_get (xs ++ ys) i ≡ Some x
+pub get_front : {A : Type 0} (xs ys : List A) (i : ℕ) (x : A) → slice_get xs i ≡ Some x → slice_get (xs ++ ys) i ≡ Some x
 get_front [] ys i x at = absurd (none-some x at)
 get_front (y ∷ xs) ys zero x at = at
 get_front (y ∷ xs) ys (suc i) x at = get_front xs ys i x at
 
-get_beyond : {A : Type 0} (xs ys : List A) (i : ℕ) (x : A) → slice_get ys i ≡ Some x → slice_get (xs ++ ys) (length xs + i) ≡ Some x
+pub get_beyond : {A : Type 0} (xs ys : List A) (i : ℕ) (x : A) → slice_get ys i ≡ Some x → slice_get (xs ++ ys) (length xs + i) ≡ Some x
 get_beyond [] ys i x at = let e : i ≡ 0 + i = omega arith in subst (λ (m : ℕ). slice_get ys m ≡ Some x) e at
 get_beyond (y ∷ xs) ys i x at =
     let e : suc (length xs + i) ≡ suc (length xs) + i = omega arith in
@@ -125,7 +138,7 @@ module _ {A : Type 0} where
 
 -- ---- numbers
 
-abbrev numbers_from : ℕ → ℕ → List ℕ
+abbrev pub numbers_from : ℕ → ℕ → List ℕ
 numbers_from low zero = []
 numbers_from low (suc count) = low ∷ numbers_from (suc low) count
 
@@ -228,14 +241,14 @@ module _ {Pass Job Reply : Type 0} (serves : Pass → Job → Pass → Reply →
   InTurn (j ∷ part) old new [] = ⊥
   InTurn (j ∷ part) old new (r ∷ made) = (next : Pass) × serves old j next r × InTurn part next new made
 
-  same_count : (part : List Job) (made : List Reply) (old new : Pass) → InTurn part old new made → length made ≡ length part
+  pub same_count : (part : List Job) (made : List Reply) (old new : Pass) → InTurn part old new made → length made ≡ length part
   same_count [] [] old new is = refl
   same_count [] (r ∷ made) old new is = absurd is
   same_count (j ∷ part) [] old new is = absurd is
   same_count (j ∷ part) (r ∷ made) old new is = ap suc (same_count part made is.0 new is.2)
 
   module _ (jobs : List Job) (replies : List Reply) where
-    part_chain : (part : List Job) (made : List Reply) (s : ℕ) (old new : Pass) → InTurn part old new made
+    pub part_chain : (part : List Job) (made : List Reply) (s : ℕ) (old new : Pass) → InTurn part old new made
         → ((i : ℕ) (j : Job) → slice_get part i ≡ Some j → slice_get jobs (s + i) ≡ Some j) → ((i : ℕ) (r : Reply) → slice_get made i ≡ Some r → slice_get replies (s + i) ≡ Some r)
         → ServedWith serves jobs replies (numbers_from (suc s) (length part)) old new
     part_chain [] [] s old new is jobs_at replies_at = is
@@ -292,15 +305,15 @@ module _ {Pass Job Reply : Type 0} (serves : Pass → Job → Pass → Reply →
           let rest = same_lists xs ys (omega (arith, count)) (λ k less. each (suc k) (omega (arith, less))) in
           ap (λ (z : ℕ). z ∷ xs) first ∙ ap (λ (l : List ℕ). y ∷ l) rest
 
-      module _ (before after : List Pass) (served : AreServed ServesBatch before batches after made) where
+      module _ (before after : List Pass) (served : HaveServed ServesBatch before batches after made) where
         same_at : (k : ℕ) → k < length batches → size (sizes_of (map made_of made)) k ≡ size sizes k
         same_at k less =
             let up : suc k - 1 ≡ k = omega arith in
-            let w = served.dealt.every_job (suc k) (omega arith) (omega (arith, less)) in
+            let w = served.every_job (suc k) (omega arith) (omega (arith, less)) in
             let list = w.1.0 in
             let below = get_below served.lists w.0 list w.1.1 in
-            let old = get_there before w.0 (let e = served.dealt.one_each in omega (arith, below, e)) in
-            let new = get_there after w.0 (let e = served.dealt.one_each in let p = served.passes in omega (arith, below, e, p)) in
+            let old = get_there before w.0 (let e = served.one_each in omega (arith, below, e)) in
+            let new = get_there after w.0 (let e = served.one_each in let p = served.passes in omega (arith, below, e, p)) in
             let c = in_chain list w.1.2 (suc k) old.0 new.0 (served.served w.0 list old.0 new.0 w.1.1 old.1 new.1) w.1.3 in
             let b_at : slice_get batches k ≡ Some c.0 = subst (λ (x : ℕ). slice_get batches x ≡ Some c.0) up c.2 in
             let m_at : slice_get made k ≡ Some c.1 = subst (λ (x : ℕ). slice_get made x ≡ Some c.1) up c.3 in
@@ -345,7 +358,7 @@ module _ {Pass Job Reply : Type 0} (serves : Pass → Job → Pass → Reply →
         jobs_are k m stands =
             let u = unmapped (expand sizes) served.lists k stands.0 stands.1 in
             let b = of_batch sizes u.0 stands.2 m (subst (λ (l : List ℕ). slice_get l stands.2 ≡ Some m) (sym u.2) stands.3) in
-            let range = served.dealt.jobs_only k b.n (u.0, u.1, b.p, b.at) in
+            let range = served.jobs_only k b.n (u.0, u.1, b.p, b.at) in
             let is = b.is in
             let there = b.there in
             let w = within_of b.n range.1 (omega (arith, range.0, range.1)) in
@@ -356,7 +369,7 @@ module _ {Pass Job Reply : Type 0} (serves : Pass → Job → Pass → Reply →
             let f = found (map jobs_in batches) (m - 1) (omega (arith, low, high)) in
             let within = f.within in
             let l = length-map batches jobs_in in
-            let w = served.dealt.every_job (suc f.k) (omega arith) (omega (arith, within, l)) in
+            let w = served.every_job (suc f.k) (omega arith) (omega (arith, within, l)) in
             let same : suc f.k - 1 ≡ f.k = omega arith in
             let r = in_batch sizes w.1.0 w.1.2 (suc f.k) f.i w.1.3 (subst (λ (x : ℕ). f.i < size sizes x) (sym same) f.there) in
             let number : suc (start sizes (suc f.k - 1)) + f.i ≡ m =
@@ -367,10 +380,10 @@ module _ {Pass Job Reply : Type 0} (serves : Pass → Job → Pass → Reply →
         pub each_served : HaveServed serves before (jobs_of batches) after (replies_of made)
         each_served = record {
           lists = map (expand sizes) served.lists;
-          one_each = length-map served.lists (expand sizes) ∙ served.dealt.one_each;
-          rising = λ k numbers at.
+          one_each = length-map served.lists (expand sizes) ∙ served.one_each;
+          rising = λ one k numbers at.
               let u = unmapped (expand sizes) served.lists k numbers at in
-              let rises = rises_from 1 u.0 (served.dealt.rising k u.0 u.1) (λ i n there. (served.dealt.jobs_only k n (u.0, u.1, i, there)).0) in
+              let rises = rises_from 1 u.0 (served.rising one k u.0 u.1) (λ i n there. (served.jobs_only k n (u.0, u.1, i, there)).0) in
               subst AreRising u.2 (rising_of (suc (start sizes 0)) (expand sizes u.0) (expand_rises sizes 1 u.0 (omega arith) rises));
           jobs_only = jobs_are;
           every_job = every;
@@ -388,11 +401,13 @@ module _ {Pass Job Reply : Type 0} (P Q : Pass → Job → Pass → Reply → Ty
   weaker_with [] before after c = c
   weaker_with (n ∷ numbers) before after c = (c.0, c.1, c.2, c.3, c.4, weaker before c.0 c.2 c.1 c.5, weaker_with numbers c.2 after c.6)
 
-  pub weaker_served : (before after : List Pass) → AreServed P before jobs after replies → AreServed Q before jobs after replies
+  pub weaker_served : (before after : List Pass) → HaveServed P before jobs after replies → HaveServed Q before jobs after replies
   weaker_served before after s = record {
     lists = s.lists;
-    dealt = s.dealt;
-    in_turn = s.in_turn;
+    one_each = s.one_each;
+    rising = s.rising;
+    jobs_only = s.jobs_only;
+    every_job = s.every_job;
     passes = s.passes;
     replies_count = s.replies_count;
     served = λ k numbers pass next at from to. weaker_with numbers pass next (s.served k numbers pass next at from to);

@@ -18,12 +18,12 @@ use Rattle.pay_returns.specs.Making.{MayReturn}
 use Rattle.corr_top.specs.declared.returning.Entered.{Entered}
 use Rattle.corr_top.specs.declared.status.Status.{Status}
 use Rattle.corr_top.specs.declared.writing.Texts.{Texts}
-use Rattle.corr_top.specs.Collecting.{IsCalm}
+use Rattle.corr_top.specs.inner.Collecting.{IsCalm}
 use Rattle.corr_top.specs.Origin.{AreSentValid}
 use Rattle.corr_top.specs.Out.{booked_from, entry_out, sent_from}
 use Rattle.corr_top.specs.Returned.{booked_on}
-use Rattle.corr_top.specs.Returning.{GivesBooked, GivesEntry, GivesLast, GivesReturned, IsEntered, asks_for}
-use Rattle.corr_top.specs.Serving.{AreServedInOrder, HasServed, are_replies}
+use Rattle.corr_top.specs.inner.Returning.{GivesBooked, GivesEntry, GivesLast, GivesReturned, IsEntered, asks_for}
+use Rattle.corr_top.specs.inner.Serving.{AreServedInOrder, HasServed, are_replies}
 use Rattle.corr_top.proofs.DayDone.{cause_of, in_order, tried_at}
 use Rattle.corr_top.proofs.OnePay.{one_booked}
 use Rattle.corr_top.proofs.OpenedBooks.{closed_alone}

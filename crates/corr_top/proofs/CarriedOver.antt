@@ -1,6 +1,6 @@
 -- A journal of version 1 that is carried over.
 use Rattle.std.proofs.Common.{◌≡◌, ◌+◌, ◌*◌, ◌≤◌, ◌<◌, ◌^◌, ℕ, All, List, [], ◌∷◌, ◌++◌, Option, Some, None, Result, Ok, Err, inl, inr, length, map, refl, sym, ap, ◌∙◌, subst, arith, append_assoc, append-nil}
-use Rattle.std.specs.Prelude.{IfErr, IsErr, IsTrue, drop, slice_get, ◌-◌}
+use Rattle.std.specs.Prelude.{IsTrue, drop, slice_get, ◌-◌}
 use Rattle.std.proofs.lemmas.List.{length-map}
 use Rattle.std.proofs.lemmas.List.Elements.{All-append, All-head, All-nil, All-tail}
 use Rattle.corr_disk.specs.declared.disk.Disk as disks
@@ -13,7 +13,7 @@ use Rattle.day_model.specs.declared.entry.Entry.{Entry}
 use Rattle.day_model.specs.Chart.{Chart}
 use Rattle.day_model.specs.Items.{items_from}
 use Rattle.jrn_book.specs.declared.version.Version.TheVariants.{One, Two}
-use Rattle.jrn_book.specs.Journal.{IsJournal, IsJournalIn, file_of, item_records}
+use Rattle.jrn_book.specs.Journal.{IsJournal, IsJournalIn, item_records}
 use Rattle.jrn_book.specs.Versions.{HasBytes}
 use Rattle.jrn_codec.specs.Header.{head_bytes}
 use Rattle.jrn_codec.specs.Items.{item_bytes}
@@ -21,7 +21,6 @@ use Rattle.jrn_codec.specs.Record.{entry_bytes}
 use Rattle.jrn_codec.proofs.laws.Records.{few_in_head}
 use Rattle.jrn_file.specs.declared.fault.MakeFault.{MakeFault}
 use Rattle.jrn_file.specs.declared.fault.MakeFault.TheVariants as making
-use Rattle.jrn_file.specs.declared.fault.OpenFault.{OpenFault}
 use Rattle.jrn_file.specs.Faults.{IsRefusal, MakeWithCause}
 use Rattle.jrn_file.specs.Journal.{StandsFor, journal_bytes}
 use Rattle.jrn_file.specs.Making.{IsOther, IsUnmade, IsUnmadeOrMadeWith}
@@ -34,10 +33,10 @@ use Rattle.corr_top.specs.declared.words.Command.TheVariants.{Plain}
 use Rattle.corr_top.specs.declared.words.Plain.TheVariants.{Migrate}
 use Rattle.corr_top.specs.declared.writing.Texts.{Texts}
 use Rattle.corr_top.specs.Commands.{meaning_of}
-use Rattle.corr_top.specs.Copied.{CopiesInTurn, GivesCarried, GivesCopied, HasCopied, HasSecond, HoldsOld, OnSecond, StopsCopying}
-use Rattle.corr_top.specs.Ends.{CommandGives, HasTexts}
+use Rattle.corr_top.specs.Copied.{HasCopied, HasSecond, HoldsOld, OnSecond, StopsCopying}
+use Rattle.corr_top.specs.inner.Copied.{GivesCarried, GivesCopied}
+use Rattle.corr_top.specs.inner.Ends.{CommandGives, HasTexts}
 use Rattle.corr_top.specs.Inputs.{Inputs}
-use Rattle.corr_top.specs.Meaning.{KeepsRest}
 use Rattle.corr_top.specs.Migrate.{migrate_steps}
 use Rattle.corr_top.specs.OnDisk.{HasNotFailed, IsMakeable, IsUnwritten}
 use Rattle.corr_top.specs.Passing.{table_at}
@@ -195,7 +194,7 @@ module _ {S K D : Type 0} (source : sources.Ghosts S) (d : disks.Ghosts D) (old 
     gives = gives;
     rest = record {
       tables = λ name unread. ap (λ t. table_at name t) rest.tables;
-      messages = λ unread. rest.messages;
+      messages = λ unread unserved. rest.messages;
       received = λ unread unpacked. rest.received;
       sent = λ unread. rest.sent;
       disk2 = λ unread. absurd (unread (contained Step.copy migrate_steps refl));

@@ -15,9 +15,9 @@ use Rattle.work_pool.specs.Served.{ServedWith}
 use Rattle.corr_books.specs.Opening.{Opening}
 use Rattle.corr_books.specs.Stand.{history_of}
 use Rattle.corr_top.specs.declared.desk.Served.{Served}
-use Rattle.corr_top.specs.Workers.{Worker}
+use Rattle.corr_top.specs.inner.Workers.{Worker}
 use Rattle.corr_top.specs.declared.message.NoPay.{NoPay}
-use Rattle.corr_top.specs.Serving.{IsTold, Serves}
+use Rattle.corr_top.specs.inner.Serving.{IsTold, Serves}
 use Rattle.corr_top.proofs.Serves.{IsFrom, goes, stands}
 
 module _ {Job : Type 0} (o : Opening) (reading : Job → Result Pay NoPay) (jobs : List Job) (made : List Served) where

@@ -5,7 +5,6 @@ use Rattle.std.proofs.lemmas.List.{append-nil, drop_all, drop_more}
 use Rattle.std.proofs.lemmas.List.Elements.{All-push}
 use Rattle.corr_ids.specs.declared.bic.Bic.{Bic}
 use Rattle.day_model.specs.declared.entry.Entry.{Entry}
-use Rattle.day_model.specs.declared.reply.Reply.{Reply}
 use Rattle.day_model.specs.Chart.{Chart}
 use Rattle.corr_report.specs.Lines.{numbered}
 use Rattle.corr_report.specs.Report.{reply_line}
@@ -15,7 +14,10 @@ use Rattle.mt950.specs.Page.{mt950_of}
 use Rattle.ref_tables.specs.Seen.{Tables}
 use Rattle.corr_top.specs.declared.received.Read.{Read}
 use Rattle.corr_top.specs.declared.received.Read.TheVariants as read
-use Rattle.corr_top.specs.Reconcile.{Collects, all_received, other_line, other_lines, pages_in, read_from}
+use Rattle.corr_top.specs.declared.message.NoPay.{NoPay}
+use Rattle.corr_top.specs.Message.{reply_for}
+use Rattle.corr_top.specs.Reconcile.{all_received, other_line, other_lines, pages_in, read_from}
+use Rattle.corr_top.specs.inner.Reconcile.{Collects}
 
 module _ (chart : Chart) (entries : List Entry) (t : Tables) (messages : List (List ℕ)) (old : List ℕ) where
   -- what the messages from the next one on are
@@ -39,14 +41,14 @@ module _ (chart : Chart) (entries : List Entry) (t : Tables) (messages : List (L
       sym is ∙ (value ∙ (ap (λ (b : Bic). read_from b t bs) home ∙ ap (λ (x : List ℕ). read_from chart.home t x) (bytes ∙ there)))
 
   -- a message that is no page adds its line
-  pub other_more : (at : ℕ) (d : List ℕ) (out new : List ℕ) (pages : List Page950) (told : Reply) → at < length messages → HasCollected at out pages
-      → read.Other told ≡ read_from chart.home t (get_or messages at d) → new ≡ out ++ reply_line chart entries (at + 1) told → HasCollected (at + 1) new pages
-  other_more at d out new pages told within before is line =
-      let next = next_is at d (read.Other told) within is in
+  pub other_more : (at : ℕ) (d : List ℕ) (out new : List ℕ) (pages : List Page950) (why : NoPay) → at < length messages → HasCollected at out pages
+      → read.Other why ≡ read_from chart.home t (get_or messages at d) → new ≡ out ++ reply_line chart entries (at + 1) (reply_for why) → HasCollected (at + 1) new pages
+  other_more at d out new pages why within before is line =
+      let next = next_is at d (read.Other why) within is in
       let rest = numbered (other_line chart entries) (at + 1 + 1) (rest_from (at + 1)) in
       record {
         told = before.told ∙ (ap (λ (rs : List Read). out ++ numbered (other_line chart entries) (at + 1) rs) next
-            ∙ (sym (append_assoc out (reply_line chart entries (at + 1) told) rest) ∙ ap (λ (bs : List ℕ). bs ++ rest) (sym line)));
+            ∙ (sym (append_assoc out (reply_line chart entries (at + 1) (reply_for why)) rest) ∙ ap (λ (bs : List ℕ). bs ++ rest) (sym line)));
         found = before.found ∙ ap (λ (rs : List Read). pages ++ pages_in rs) next;
         joined = before.joined;
         few = omega (arith, before.few);

@@ -22,7 +22,7 @@ use Rattle.day_model.specs.declared.pay.Pay.{Pay}
 use Rattle.day_model.specs.Chart.{AreBy, Chart, opening_sum}
 use Rattle.day_model.specs.Laws.{IsLatest}
 use Rattle.day_model.specs.Legal.{IsLegal}
-use Rattle.fin_frame.specs.Machine.{at_start, run, with_open}
+use Rattle.fin_frame.specs.inner.Machine.{at_start, run, with_open}
 use Rattle.fin_frame.proofs.laws.Showing.{cut-comes}
 use Rattle.jrn_book.specs.declared.changing.ChangeFault.{ChangeFault}
 use Rattle.jrn_book.specs.declared.changing.ChangeFault.TheVariants as changing
@@ -80,7 +80,7 @@ use Rattle.corr_top.specs.MessageFile.{IsMessageFile, StopsCutting}
 use Rattle.corr_top.specs.Migrate.{migrate_steps}
 use Rattle.corr_top.specs.Page.{page_steps}
 use Rattle.corr_top.specs.OnDisk.{HoldsJournal, IsMakeable, StopsMaking, StopsOpening}
-use Rattle.corr_top.specs.Passing.{Bad, Balances, HasMessages, StepIsUntouched, Passes, StopsAt, StopsAtMessages, StopsAtSent, StopsAtSums, StopsAtTable, most_sent_bytes, table_fault, table_file}
+use Rattle.corr_top.specs.Passing.{Bad, Balances, HasMessages, StepIsUntouched, Passes, StopsAt, StopsAtMessages, StopsAtSent, StopsAtSums, StopsAtTable, StopsServing, most_sent_bytes, table_fault, table_file}
 use Rattle.corr_top.specs.Query.{query_steps}
 use Rattle.corr_top.specs.Reconcile.{reconcile_steps}
 use Rattle.corr_top.specs.Check.{check_steps}
@@ -124,13 +124,12 @@ record HasThree (done : List Step) : Type 0 where
   pub ccys : Has done (Step.table names.Ccys)
   pub countries : Has done (Step.table names.Countries)
 
--- what a step needs is passed
+-- what is read ahead of the messages of a day is passed
 record HasBooked (done : List Step) : Type 0 where
   pub three : HasThree done
   pub ssi : Has done (Step.table names.Ssi)
   pub charges : Has done (Step.table names.Charges)
   pub journal : Has done Step.open_journal
-  pub messages : Has done Step.messages
 
 -- the tables under which a row is read are passed; limits have no row
 abbrev HasRowTables : AccountChange → List Step → Type 0
@@ -149,7 +148,7 @@ IsAfter change done Step.make = Unit {0}
 IsAfter change done Step.open_journal = Unit {0}
 IsAfter change done Step.day = Has done Step.open_journal
 IsAfter change done Step.messages = Unit {0}
-IsAfter change done Step.book = HasBooked done
+IsAfter change done Step.serve = HasBooked done
 IsAfter change done Step.received = Unit {0}
 IsAfter change done Step.sent = Unit {0}
 IsAfter change done Step.change = Has done Step.open_journal × HasRowTables change done
@@ -186,12 +185,12 @@ same_fault j i done names.Charges home after all own =
     ap (λ (t : Tables). named names.Charges (charges_fault t j.charges)) (same_three j i done after all)
     ∙ ap (λ (f : List ℕ). named names.Charges (charges_fault (tables_in i) f)) own
 
-same_pays : (j i : Inputs) (done : List Step) → HasBooked done → Walks (Agrees j i) done → pays_of j ≡ pays_of i
-same_pays j i done has all =
+same_pays : (j i : Inputs) (done : List Step) → HasBooked done → Walks (Agrees j i) done → j.cut ≡ i.cut → pays_of j ≡ pays_of i
+same_pays j i done has all cut =
     ap (λ (x : Directory). pays_in (readings_of x j.chart j.cut)) (same_directory j i (same_three j i done has.three all) (walked (Agrees j i) done (Step.table names.Ssi) all has.ssi)
     (walked (Agrees j i) done (Step.table names.Charges) all has.charges))
     ∙ ap (λ (c : Chart). pays_in (readings_of (directory_in i) c j.cut)) (walked (Agrees j i) done Step.open_journal all has.journal).chart
-    ∙ ap (λ (ms : List (List ℕ)). pays_in (readings_of (directory_in i) i.chart ms)) (walked (Agrees j i) done Step.messages all has.messages)
+    ∙ ap (λ (ms : List (List ℕ)). pays_in (readings_of (directory_in i) i.chart ms)) cut
 
 -- a change of the same accounts that is read under the same tables is the same, and so is the fault of its row
 same_row : (j i : Inputs) (done : List Step) (change : AccountChange) → HasRowTables change done → Walks (Agrees j i) done → row_fault i.chart (lent_in j) change ≡ row_fault i.chart (lent_in i) change
@@ -378,6 +377,22 @@ module _ {S K D : Type 0} (source : sources.Ghosts S) (d : disks.Ghosts D) (old 
   as_read : SameJournal j i → (pay : Pay) → IsReturnable i pay → IsReturnable j pay
   as_read journal pay may = subst (λ (x : Chart × (List Entry × (ℕ × Day))). MayReturn x.0 x.1.0 x.1.1.0 x.1.1.1 pay) (λ k. (sym journal.chart k, (sym journal.history k, (sym place k, sym day k)))) may
 
+  -- the messages of a file that was read are those that were told
+  cut_agrees : (from to : S) → TellsAll source from to i.messages → IsMessageFile i.messages i.cut → HasMessages source from to j.messages j.cut → j.cut ≡ i.cut
+  cut_agrees from to told are had =
+      let same = took_whole source.left source.faults 67108864 from to j.messages i.messages told.told are.short had.took in
+      sym (cut-comes had.are.cut).all ∙ ap (λ (f : List ℕ). with_open (run (at_start []) f).given (run (at_start []) f).held) same ∙ (cut-comes are.cut).all
+
+  -- serving a file with which nothing is wrong, whose pays have room, wants memory where it stops
+  serving_memory : (s : Status) (done : List Step) → HasBooked done → Walks (Agrees j i) done → IsReady source d old new i Step.serve → StopsServing source d old new j s → s ≡ status.Memory
+  serving_memory s done after all ready (inl none) = none.status_is
+  serving_memory s done after all ready (inr (inl in_file)) =
+      in_file.status_is ∙ messages_memory source old.messages new.messages j.messages i.messages i.cut in_file.stop ready.0.0 ready.0.1 in_file.stops
+  serving_memory s done after all ready (inr (inr in_pays)) =
+      let journal = walked (Agrees j i) done Step.open_journal all after.journal in
+      let cut = cut_agrees old.messages new.messages ready.0.0 ready.0.1 in_pays.file in
+      in_pays.status_is ∙ booking_memory d old.disk new.disk j i in_pays.stop ready.1.0 ready.1.1 journal (same_pays j i done after all cut) in_pays.left
+
   step_memory : (s : Status) (done : List Step) (step : Step) → IsAfter i.change done step → Walks (Agrees j i) done → IsReady source d old new i step → StopsAt source d old new j s step → s ≡ status.Memory
   step_memory s done (Step.table name) after all ready stops =
       stops.1 ∙ table_memory source _ _ (table_file name j) (table_file name i) (table_fault name j) (table_fault name i) stops.0 ready.0 ready.1 (small_table name i ready.1) (same_fault j i done name home after all) stops.2
@@ -387,9 +402,7 @@ module _ {S K D : Type 0} (source : sources.Ghosts S) (d : disks.Ghosts D) (old 
   step_memory s done Step.day after all ready stops =
       absurd (day_memory j.history i.history i.day stops.0 (walked (Agrees j i) done Step.open_journal all after).history ready (subst (λ (x : Day). IsBack j.history x stops.0) day stops.2))
   step_memory s done Step.messages after all ready stops = stops.1 ∙ messages_memory source old.messages new.messages j.messages i.messages i.cut stops.0 ready.0 ready.1 stops.2
-  step_memory s done Step.book after all ready stops =
-      let journal = walked (Agrees j i) done Step.open_journal all after.journal in
-      stops.1 ∙ booking_memory d old.disk new.disk j i stops.0 ready.0 ready.1 journal (same_pays j i done after all) stops.2
+  step_memory s done Step.serve after all ready stops = serving_memory s done after all ready stops
   step_memory s done Step.received after all ready stops = stops.1 ∙ messages_memory source old.received new.received j.messages i.messages i.cut stops.0 ready.0 ready.1 stops.2
   step_memory s done Step.sent after all ready stops = stops.1 ∙ sent_memory source old.sent new.sent j.messages i.messages stops.0 ready.0 ready.1 stops.2
   step_memory s done Step.change after all ready stops =
@@ -421,12 +434,6 @@ module _ {S K D : Type 0} (source : sources.Ghosts S) (d : disks.Ghosts D) (old 
       stops.2 ∙ taking_memory d old.disk new.disk j.held j.packets stops.0 stops.1 ready.0 may stops.3
   step_memory s done Step.aside after all ready stops = absurd stops
 
-  -- the messages of a file that was read are those that were told
-  cut_agrees : (from to : S) → TellsAll source from to i.messages → IsMessageFile i.messages i.cut → HasMessages source from to j.messages j.cut → j.cut ≡ i.cut
-  cut_agrees from to told are had =
-      let same = took_whole source.left source.faults 67108864 from to j.messages i.messages told.told are.short had.took in
-      sym (cut-comes had.are.cut).all ∙ ap (λ (f : List ℕ). with_open (run (at_start []) f).given (run (at_start []) f).held) same ∙ (cut-comes are.cut).all
-
   step_agrees : (step : Step) → IsReady source d old new i step → Passes source d old new j step → Agrees j i step
   step_agrees (Step.table name) ready passes = took_whole source.left source.faults 8388608 _ _ (table_file name j) (table_file name i) ready.0.told (small_table name i ready.1) passes.took
   step_agrees Step.sums ready passes = tt
@@ -436,7 +443,7 @@ module _ {S K D : Type 0} (source : sources.Ghosts S) (d : disks.Ghosts D) (old 
       record { chart = cc; history = cc; by_now = ready.1.journal.legal.changes.by_now }
   step_agrees Step.day ready passes = tt
   step_agrees Step.messages ready passes = cut_agrees old.messages new.messages ready.0 ready.1 passes
-  step_agrees Step.book ready passes = tt
+  step_agrees Step.serve ready passes = tt
   step_agrees Step.received ready passes = cut_agrees old.received new.received ready.0 ready.1 passes
   step_agrees Step.sent ready passes = tt
   step_agrees Step.change ready passes = tt
@@ -471,23 +478,22 @@ three_in done bics ccys countries = record {
   countries = find (Step.table names.Countries) done countries;
 }
 
--- what a run has behind it after the tables of banks, currencies and countries; after the journal; and after the message file
+-- what a run has behind it after the tables of banks, currencies and countries; after the journal; and after the day
 abbrev after_banks : List Step
 after_banks = Step.table names.Countries ∷ Step.table names.Ccys ∷ Step.table names.Bics ∷ []
 
 abbrev after_journal : List Step
 after_journal = Step.open_journal ∷ Step.table names.Charges ∷ Step.table names.Ssi ∷ after_banks
 
-abbrev after_file : List Step
-after_file = Step.messages ∷ Step.day ∷ after_journal
+abbrev after_day : List Step
+after_day = Step.day ∷ after_journal
 
-all_read : HasBooked after_file
+all_read : HasBooked after_day
 all_read = record {
-  three = three_in after_file refl refl refl;
-  ssi = find (Step.table names.Ssi) after_file refl;
-  charges = find (Step.table names.Charges) after_file refl;
-  journal = find Step.open_journal after_file refl;
-  messages = find Step.messages after_file refl;
+  three = three_in after_day refl refl refl;
+  ssi = find (Step.table names.Ssi) after_day refl;
+  charges = find (Step.table names.Charges) after_day refl;
+  journal = find Step.open_journal after_day refl;
 }
 
 -- the change of a command that changes accounts
@@ -506,7 +512,7 @@ unfolding meaning_of
 ordered change (Run day workers entries) is =
     let ssi = three_in after_banks refl refl refl in
     let charges = three_in (Step.table names.Ssi ∷ after_banks) refl refl refl in
-    (tt, (tt, (tt, (ssi, (charges, (tt, (find Step.open_journal after_journal refl, (tt, (all_read, tt)))))))))
+    (tt, (tt, (tt, (ssi, (charges, (tt, (find Step.open_journal after_journal refl, (all_read, tt))))))))
 ordered change (Trial count seed workers) is = tt
 ordered change (Return place day) is =
     let done = Step.day ∷ Step.open_journal ∷ [] in

@@ -28,17 +28,22 @@ use Rattle.corr_top.specs.declared.status.Status.{Status}
 use Rattle.corr_top.specs.declared.status.Status.TheVariants as status
 use Rattle.corr_top.specs.declared.writing.Texts.{Texts}
 use Rattle.corr_top.specs.Booking.{EachTried, EntersInOrder, HadNoRoom, LacksRoomThen}
-use Rattle.corr_top.specs.Collecting.{IsCalm, StopsAsServed}
-use Rattle.corr_top.specs.Days.{GivesDay, GivesServed, GivesTexts, StopCause}
+use Rattle.corr_top.specs.inner.Collecting.{IsCalm, StopsAsServed}
+use Rattle.corr_top.specs.inner.Days.{GivesDay, GivesServed, GivesTexts, StopCause}
 use Rattle.corr_top.specs.Message.{pays_in, readings_of}
-use Rattle.corr_top.specs.Origin.{SendsAccepted}
+use Rattle.corr_top.specs.inner.Origin.{SendsAccepted}
 use Rattle.corr_top.specs.Out.{sent_from}
-use Rattle.corr_top.specs.Passing.{HasMessages}
-use Rattle.corr_top.specs.Serving.{AllServed, AreServedInOrder, AreTold, are_replies, HasPayShape, HasServed, IsFirstFull, IsShort, IsTold, IsTried}
-use Rattle.corr_top.specs.Stops.{status_of_booking}
+use Rattle.corr_top.specs.Passing.{AreGiven, HasMessages, StopsAtMessages}
+use Rattle.corr_top.specs.inner.Serving.{FeedServed, AreServedInOrder, AreTold, are_replies, HasPayShape, HasServed, IsFirstFull, IsShort, IsTold, IsTried}
+use Rattle.corr_top.specs.Stops.{status_of_file}
+use Rattle.corr_top.specs.inner.Streamed.{EndsAt, GivesStream, StreamServed}
+use Rattle.corr_top.specs.declared.cutting.FileStop.{FileStop}
+use Rattle.corr_top.specs.declared.cutting.FileStop.TheVariants as stop_of
+use Rattle.corr_top.specs.declared.serving.StreamedDay.{StreamedDay}
+use Rattle.corr_top.specs.declared.stream.Stage.{Stage}
+use Rattle.corr_top.specs.declared.stream.Stage.TheVariants as stage
 use Rattle.corr_top.proofs.Adding.{in_front}
 use Rattle.corr_top.proofs.Answering.{all_places, entered_by, has_answered}
-use Rattle.corr_top.proofs.FrontPart.{front_on}
 use Rattle.corr_top.proofs.Fronts.{All-after}
 use Rattle.corr_top.proofs.NoRoom.{finds_none}
 use Rattle.corr_top.proofs.Origins.{sent-valid}
@@ -170,21 +175,6 @@ module _ {S D : Type 0} (source : sources.Ghosts S) (d : disks.Ghosts D) (direct
   still (inl alone) calm = alone.sure
   still (inr failed) calm = absurd (calm failed.0)
 
-  -- there was no memory to serve any message
-  pub day_unserved : history ≡ old.base → GivesDay source d directory workers most from to old new (Err (status_of_booking booking.Memory))
-  day_unserved none = inr (record {
-    stop = booking.Memory;
-    bytes = bytes;
-    cut = cut;
-    history = history;
-    status_is = refl;
-    file = file;
-    served = left;
-    tried = tt;
-    alone = λ one. record { entered = front_on old.accounts old.base [] (pays_in readings) old.day history none; stops = tt };
-    cause = tt;
-  })
-
   module _ (made : List Served) (told : AreTold books history readings made) (turn : workers ≡ 1 → AreServedInOrder books history readings made) where
     -- its texts were made
     pub day_done : (count before : ℕ) (texts : Texts) → before ≡ old.at_open → count ≡ length old.base → AreInstructions directory.tables directory.ssi → IsChart old.accounts
@@ -210,7 +200,7 @@ module _ {S D : Type 0} (source : sources.Ghosts S) (d : disks.Ghosts D) (direct
 
     -- or not
     pub day_stops : (count before : ℕ) (s : Status) → before ≡ old.at_open → GivesTexts old.accounts history made before (d.faults new) count (Err s) → GivesDay source d directory workers most from to old new (Err s)
-    day_stops count before s was gives = inr (record {
+    day_stops count before s was gives = inr (inr (record {
       stop = gives.0;
       bytes = bytes;
       cut = cut;
@@ -221,34 +211,73 @@ module _ {S D : Type 0} (source : sources.Ghosts S) (d : disks.Ghosts D) (direct
       tried = tried_at books readings history (d.faults new) made told turn before (d.faults new) gives.0 gives.2;
       alone = in_order books readings history (d.faults new) made told turn before (d.faults new) gives.0 gives.2;
       cause = cause_of books readings history (d.faults new) made told turn before (d.faults new) gives.0 was refl (still left.leaves) gives.2;
-    })
+    }))
 
--- ---- a day that was served, or for which there was no memory
+-- ---- a day whose messages were served while their file was read
 
 -- what was left of books on an opening's accounts
 left_on : {D : Type 0} (d : disks.Ghosts D) (o : Opening) (past : ℕ → List ℕ → Type 0) (readings : List (Result Pay NoPay)) (chart : Chart) (history : List Entry) (left : D) → HasServed d o past readings chart history left → HasServed d o past readings o.accounts history left
 left_on d o past asked chart history left has = record { accounts = refl; added = has.added; is = has.is; each = has.each; journal = has.journal; leaves = has.leaves; in_turn = has.in_turn; honest = has.honest }
 
-module _ {S D : Type 0} (source : sources.Ghosts S) (d : disks.Ghosts D) (directory : Directory) (workers most : ℕ) (from to : S) (old : Parts D) (bytes : List ℕ) (cut : List (List ℕ)) (file : HasMessages source from to bytes cut)
+module _ {S D : Type 0} (source : sources.Ghosts S) (d : disks.Ghosts D) (directory : Directory) (workers most : ℕ) (from : S) (old : Parts D)
     (are : AreInstructions directory.tables directory.ssi) (sound : IsChart old.accounts) (count before : ℕ) (was : before ≡ old.at_open) (counted : count ≡ length old.base) where
-  by_served : {V M : Type 0} (items : V → List Served) (history : List Entry) (new : D) → HasServed d (opening_with d old workers most) (past_of d old) (readings_of directory old.accounts cut) old.accounts history new
-      → (served : Result V M) → IfOk served (λ made. AreTold (opening_with d old workers most) history (readings_of directory old.accounts cut) (items made))
-      → IfOk served (λ made. workers ≡ 1 → AreServedInOrder (opening_with d old workers most) history (readings_of directory old.accounts cut) (items made)) → IfErr served (λ _. history ≡ old.base)
-      → (r : Result Texts Status) → IfOk served (λ made. GivesTexts old.accounts history (items made) before (d.faults new) count r) → IfErr served (λ _. r ≡ Err status.Memory)
-      → GivesDay source d directory workers most from to old new r
-  by_served items history new left (Ok made) told turn none (Ok texts) gives memory = day_done source d directory workers most from to old new bytes cut file history left (items made) told turn count before texts was counted are sound gives
-  by_served items history new left (Ok made) told turn none (Err s) gives memory = day_stops source d directory workers most from to old new bytes cut file history left (items made) told turn count before s was gives
-  by_served items history new left (Err e) told turn none r gives memory =
-      subst (GivesDay source d directory workers most from to old new) (sym memory) (day_unserved source d directory workers most from to old new bytes cut file history left none)
+  abbrev opening : Opening
+  opening = opening_with d old workers most
 
-  pub day_ends : (day : ServedDay D) → AllServed d (opening_with d old workers most) (past_of d old) (readings_of directory old.accounts cut) day → (r : Result Texts Status) → GivesServed d day before count r → GivesDay source d directory workers most from to old day.closed.disk r
-  day_ends day all r gives =
-      by_served (λ made. made.items) day.closed.history.entries day.closed.disk (left_on d (opening_with d old workers most) (past_of d old) (readings_of directory old.accounts cut) day.closed.accounts day.closed.history.entries day.closed.disk all.left)
-      day.served all.told all.turn all.none r
-      (subst (λ (c : Chart). IfOk day.served (λ made. GivesTexts c day.closed.history.entries made.items before (d.faults day.closed.disk) count r)) all.left.accounts gives.texts) gives.none
+  abbrev asked_by : List (List ℕ) → List (Result Pay NoPay)
+  asked_by given = readings_of directory old.accounts given
+
+  -- the file stopped it, or memory ran out
+  by_file : (to : S) (stop : FileStop) (bytes : List ℕ) (given : List (List ℕ)) → StopsAtMessages source from to bytes stop → AreGiven source from to given
+      → (day : ServedDay D) → FeedServed d opening (past_of d old) (asked_by given) day → GivesDay source d directory workers most from to old day.closed.disk (Err (status_of_file stop))
+  by_file to stop bytes given stops are_given day served = inr (inl (record {
+    stop = stop;
+    bytes = bytes;
+    given = given;
+    history = day.closed.history.entries;
+    status_is = refl;
+    stops = stops;
+    are_given = are_given;
+    served = left_on d opening (past_of d old) (asked_by given) day.closed.accounts day.closed.history.entries day.closed.disk served.left;
+    alone = served.front;
+  }))
+
+  by_served : {V M : Type 0} (items : V → List Served) (to : S) (bytes : List ℕ) (given : List (List ℕ)) (history : List Entry) (new : D) → HasServed d opening (past_of d old) (asked_by given) old.accounts history new
+      → (served : Result V M) → HasMessages source from to bytes given ⊎ IfOk served (λ _. ⊥) → IfOk served (λ made. AreTold opening history (asked_by given) (items made))
+      → IfOk served (λ made. workers ≡ 1 → AreServedInOrder opening history (asked_by given) (items made))
+      → (r : Result Texts Status) → IfOk served (λ made. GivesTexts old.accounts history (items made) before (d.faults new) count r) → IfErr served (λ _. r ≡ Err status.Memory)
+      → GivesDay source d directory workers most from to old new (Err status.Memory) → GivesDay source d directory workers most from to old new r
+  by_served items to bytes given history new left (Ok made) (inl file) told turn (Ok texts) gives memory none = day_done source d directory workers most from to old new bytes given file history left (items made) told turn count before texts was counted are sound gives
+  by_served items to bytes given history new left (Ok made) (inl file) told turn (Err s) gives memory none = day_stops source d directory workers most from to old new bytes given file history left (items made) told turn count before s was gives
+  by_served items to bytes given history new left (Ok made) (inr never) told turn r gives memory none = absurd never
+  by_served items to bytes given history new left (Err e) file told turn r gives memory none = subst (GivesDay source d directory workers most from to old new) (sym memory) none
+
+  pub stream_ends : (s : StreamedDay S D) → StreamServed source d opening (past_of d old) (readings_of directory old.accounts) from s → (r : Result Texts Status) → GivesStream d s.day s.file.stage before count r
+      → GivesDay source d directory workers most from s.file.source old s.day.closed.disk r
+  stream_ends s had r gives = by_stage s.file.stage had.ends gives
+    where
+      history : List Entry
+      history = s.day.closed.history.entries
+
+      left : HasServed d opening (past_of d old) (asked_by had.given) old.accounts history s.day.closed.disk
+      left = left_on d opening (past_of d old) (asked_by had.given) s.day.closed.accounts history s.day.closed.disk had.served.left
+
+      stopped : (stop : FileStop) (bytes : List ℕ) → StopsAtMessages source from s.file.source bytes stop → GivesDay source d directory workers most from s.file.source old s.day.closed.disk (Err (status_of_file stop))
+      stopped stop bytes stops = by_file s.file.source stop bytes had.given stops had.are_given s.day had.served
+
+      day_gives : (bytes : List ℕ) → HasMessages source from s.file.source bytes had.given ⊎ IfOk s.day.served (λ _. ⊥) → StopsAtMessages source from s.file.source bytes stop_of.Memory → GivesServed d s.day before count r
+          → GivesDay source d directory workers most from s.file.source old s.day.closed.disk r
+      day_gives bytes whole memory gives =
+          by_served (λ made. made.items) s.file.source bytes had.given history s.day.closed.disk left s.day.served whole had.served.told had.served.turn r
+          (subst (λ (c : Chart). IfOk s.day.served (λ made. GivesTexts c history made.items before (d.faults s.day.closed.disk) count r)) had.served.left.accounts gives.texts) gives.none (stopped stop_of.Memory bytes memory)
+
+      by_stage : (at : Stage) → EndsAt source from s.file.source had.given s.day.served at → GivesStream d s.day at before count r → GivesDay source d directory workers most from s.file.source old s.day.closed.disk r
+      by_stage stage.Whole ends gives = day_gives ends.0 ends.1 ends.2 gives
+      by_stage (stage.Stopped stop) ends gives = subst (GivesDay source d directory workers most from s.file.source old s.day.closed.disk) (sym gives) (stopped stop ends.0 ends.1)
+      by_stage stage.Going ends gives = day_gives [] (inr ends.0) ends.1 gives
 
 -- what the making of the texts needs of a served day
-pub places_in : {D : Type 0} (d : disks.Ghosts D) (o : Opening) (past : ℕ → List ℕ → Type 0) (readings : List (Result Pay NoPay)) (day : ServedDay D) → AllServed d o past readings day
+pub places_in : {D : Type 0} (d : disks.Ghosts D) (o : Opening) (past : ℕ → List ℕ → Type 0) (readings : List (Result Pay NoPay)) (day : ServedDay D) → FeedServed d o past readings day
     → IfOk day.served (λ made. (replies : List Reply) → made.items ≡ are_replies replies → All (NamesPlace day.closed.history.entries) replies)
 places_in d o past readings day all = by_told (λ made. made.items) day.served all.told
   where
@@ -257,7 +286,7 @@ places_in d o past readings day all = by_told (λ made. made.items) day.served a
     by_told items (Ok made) told = λ replies is. all_places o day.closed.history.entries readings (items made) replies told is
     by_told items (Err e) told = tt
 
-pub few_made : {D : Type 0} (d : disks.Ghosts D) (o : Opening) (past : ℕ → List ℕ → Type 0) (readings : List (Result Pay NoPay)) (day : ServedDay D) → AllServed d o past readings day → (n : ℕ) → length readings ≤ n → IfOk day.served (λ made. length made.items ≤ n)
+pub few_made : {D : Type 0} (d : disks.Ghosts D) (o : Opening) (past : ℕ → List ℕ → Type 0) (readings : List (Result Pay NoPay)) (day : ServedDay D) → FeedServed d o past readings day → (n : ℕ) → length readings ≤ n → IfOk day.served (λ made. length made.items ≤ n)
 few_made d o past readings day all n few = by_told (λ made. made.items) day.served all.told
   where
     by_told : {V M : Type 0} (items : V → List Served) (served : Result V M) → IfOk served (λ made. AreTold o day.closed.history.entries readings (items made)) → IfOk served (λ made. length (items made) ≤ n)

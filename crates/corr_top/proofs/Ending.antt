@@ -6,10 +6,12 @@ use Rattle.corr_io.specs.declared.source.Source as sources
 use Rattle.corr_top.specs.declared.room.Room.{Room}
 use Rattle.corr_top.specs.declared.status.Status.{Status}
 use Rattle.corr_top.specs.declared.writing.Texts.{Texts}
-use Rattle.corr_top.specs.Ends.{Ends, HasTexts}
+use Rattle.corr_top.specs.Ends.{Ends}
+use Rattle.corr_top.specs.inner.Ends.{HasTexts}
 use Rattle.corr_top.specs.Meaning.{KeepsRest, Meaning}
 use Rattle.corr_top.specs.Status.{HasLine}
-use Rattle.corr_top.specs.Writing.{FailsWriting, IsWritten, Received}
+use Rattle.corr_top.specs.Writing.{FailsWriting, Received}
+use Rattle.corr_top.specs.inner.Writing.{IsWritten}
 use Rattle.corr_top.proofs.Stopping.{stopped}
 
 -- ---- a line can tell each status

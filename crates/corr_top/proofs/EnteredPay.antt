@@ -1,5 +1,5 @@
 -- One pay that was entered with the one pass of its books, when the books are closed.
-use Rattle.std.proofs.Common.{◌≡◌, ◌+◌, ℕ, All, List, [], ◌∷◌, ◌++◌, Result, Ok, length, length-append, map, ap, sym, subst, arith}
+use Rattle.std.proofs.Common.{◌≡◌, ℕ, All, List, [], ◌∷◌, ◌++◌, Result, Ok, length, length-append, map, ap, sym, subst, arith}
 use Rattle.corr_books.specs.Closing.{Closes, LeavesClosed, LeavesInTurn}
 use Rattle.corr_books.specs.Opening.{Opening, Parts, opening_with}
 use Rattle.corr_books.specs.Passes.{AreNew}
@@ -15,9 +15,9 @@ use Rattle.jrn_book.specs.Answers.{Answer}
 use Rattle.jrn_book.specs.Journal.{IsJournal}
 use Rattle.corr_top.specs.Booking.{IsEnteredOn}
 use Rattle.corr_top.specs.Message.{pays_in}
-use Rattle.corr_top.specs.Returning.{IsEntered, asks_for}
-use Rattle.corr_top.specs.Serving.{AreServedInOrder, AreTold, served_of, starting}
-use Rattle.corr_top.specs.Workers.{Worker}
+use Rattle.corr_top.specs.inner.Returning.{IsEntered, asks_for}
+use Rattle.corr_top.specs.inner.Serving.{AreServedInOrder, AreTold, served_of, starting}
+use Rattle.corr_top.specs.inner.Workers.{Worker}
 use Rattle.corr_top.specs.declared.desk.Served.{Served}
 use Rattle.corr_top.specs.declared.message.NoPay.{NoPay}
 use Rattle.corr_top.specs.declared.returning.Entered.{Entered}

@@ -17,9 +17,10 @@ use Rattle.corr_top.specs.declared.words.Command.TheVariants.{Plain}
 use Rattle.corr_top.specs.declared.words.Plain.TheVariants.{Follow}
 use Rattle.corr_top.specs.declared.writing.Texts.{Texts}
 use Rattle.corr_top.specs.Commands.{meaning_of}
-use Rattle.corr_top.specs.Ends.{CommandGives, HasTexts}
+use Rattle.corr_top.specs.inner.Ends.{CommandGives, HasTexts}
 use Rattle.corr_top.specs.Follow.{follow_steps}
-use Rattle.corr_top.specs.Followed.{GivesFollowed, HasTaken, HoldsRecords, IsTakenPart, LeavesRecords, StopsBeginning, StopsTaking, TakesInTurn, packet_bytes}
+use Rattle.corr_top.specs.Followed.{HasTaken, HoldsRecords, IsTakenPart, LeavesRecords, StopsBeginning, StopsTaking, TakesInTurn, packet_bytes}
+use Rattle.corr_top.specs.inner.Followed.{GivesFollowed}
 use Rattle.corr_top.specs.Inputs.{Inputs}
 use Rattle.corr_top.specs.Meaning.{KeepsRest}
 use Rattle.corr_top.specs.OnDisk.{HasNotFailed, IsUnwritten}
@@ -88,7 +89,7 @@ module _ {S K D : Type 0} (source : sources.Ghosts S) (d : disks.Ghosts D) (old 
   keeps_rest : KeepsRest follow_steps old new
   keeps_rest = record {
     tables = λ name unread. ap (λ (t : Tables S). table_at name t) rest.tables;
-    messages = λ unread. rest.messages;
+    messages = λ unread unserved. rest.messages;
     received = λ unread unpacked. absurd (unpacked (contained Step.packets follow_steps refl));
     sent = λ unread. rest.sent;
     disk2 = λ unread. rest.disk2;

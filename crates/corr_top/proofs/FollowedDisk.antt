@@ -1,5 +1,5 @@
 -- Packets that are taken on a follower's disk.
-use Rattle.std.proofs.Common.{◌≡◌, ◌+◌, ◌≤◌, ◌≢◌, ℕ, List, [], ◌∷◌, ◌++◌, Some, length, map, refl, sym, ap, ◌∙◌, subst, arith, append_assoc, append-nil}
+use Rattle.std.proofs.Common.{◌≡◌, ◌≤◌, ◌≢◌, ℕ, List, [], ◌∷◌, ◌++◌, Some, length, map, refl, sym, ap, ◌∙◌, subst, arith, append_assoc, append-nil}
 use mathlib.Core.Bool.{true≢false}
 use Rattle.std.specs.Prelude.{IfSome}
 use Rattle.std.proofs.lemmas.List.Elements.{All-head, All-nil, All-push, All-tail}
@@ -28,9 +28,10 @@ use Rattle.corr_top.specs.Followed.{ArePackets, EndsWithin, HoldsRecords, IsShor
 use Rattle.corr_top.specs.declared.reading.ReadStop.{ReadStop}
 use Rattle.corr_top.specs.declared.reading.ReadStop.TheVariants as reading
 use Rattle.corr_top.specs.MessageFile.{most_message_bytes}
-use Rattle.corr_top.specs.Reading.{IsStopped}
+use Rattle.corr_top.specs.inner.Reading.{IsStopped}
 use Rattle.corr_top.specs.Ship.{joined_all}
-use Rattle.corr_top.specs.Stops.{file_stop_of_read, status_of_file, status_of_opening, status_of_taking}
+use Rattle.corr_top.specs.Stops.{status_of_file, status_of_opening, status_of_taking}
+use Rattle.corr_top.specs.inner.Stops.{file_stop_of_read}
 use Rattle.corr_top.proofs.FaultCounts.{same_rose, tells_rose}
 use Rattle.corr_top.proofs.Told.{took_whole}
 

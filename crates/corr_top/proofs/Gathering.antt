@@ -10,7 +10,7 @@ use Rattle.corr_top.specs.declared.answers.BookStop.{BookStop}
 use Rattle.corr_top.specs.declared.answers.BookStop.TheVariants as booking
 use Rattle.corr_top.specs.declared.desk.Served.{Served}
 use Rattle.corr_top.specs.declared.desk.Served.TheVariants as served
-use Rattle.corr_top.specs.Serving.{IsFirstFull, IsTried, are_replies}
+use Rattle.corr_top.specs.inner.Serving.{IsFirstFull, IsTried, are_replies}
 use Rattle.corr_top.proofs.Replying.{all_one, get_stays}
 use Rattle.day_model.proofs.laws.Folds.{get_at}
 

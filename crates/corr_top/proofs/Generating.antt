@@ -8,15 +8,15 @@ use Rattle.corr_top.specs.declared.words.Command.TheVariants.{Plain, Trial}
 use Rattle.corr_top.specs.declared.words.Plain.TheVariants.{Generate}
 use Rattle.corr_top.specs.declared.writing.Texts.{Texts}
 use Rattle.corr_top.specs.Commands.{meaning_of}
-use Rattle.corr_top.specs.Ends.{HasTexts}
-use Rattle.corr_top.specs.Generate.{GivesGenerated}
+use Rattle.corr_top.specs.inner.Ends.{HasTexts}
+use Rattle.corr_top.specs.inner.Generate.{GivesGenerated}
 use Rattle.corr_top.specs.Meaning.{KeepsRest}
-use Rattle.corr_top.specs.Trial.{GivesTrial}
+use Rattle.corr_top.specs.inner.Trial.{GivesTrial}
 use Rattle.corr_top.proofs.TableFiles.{no_inputs}
 
 -- a room keeps itself
 keeps_all : {S K D : Type 0} (room : Room S K D) → KeepsRest [] room room
-keeps_all room = record { tables = λ name unread. refl; messages = λ unread. refl; received = λ unread unpacked. refl; sent = λ unread. refl; disk2 = λ unread. refl }
+keeps_all room = record { tables = λ name unread. refl; messages = λ unread unserved. refl; received = λ unread unpacked. refl; sent = λ unread. refl; disk2 = λ unread. refl }
 
 -- it touches nothing of its room
 pub generated_texts : {S K D : Type 0} (source : sources.Ghosts S) (d : disks.Ghosts D) (count seed : ℕ) (room : Room S K D) (r : Result Texts Status) → GivesGenerated count seed r

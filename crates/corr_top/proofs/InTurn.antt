@@ -31,7 +31,7 @@ use Rattle.corr_top.specs.declared.desk.Served.TheVariants as served
 use Rattle.corr_top.specs.declared.message.NoPay.{NoPay}
 use Rattle.corr_top.specs.Message.{pays_in}
 use Rattle.jrn_book.specs.Batches.{entered_of, history_with, lacks_room}
-use Rattle.corr_top.specs.Serving.{AnswersMessage, IsTried, served_of}
+use Rattle.corr_top.specs.inner.Serving.{AnswersMessage, IsTried, served_of}
 use Rattle.jrn_book.proofs.laws.Items.{by_later}
 use Rattle.jrn_book.proofs.laws.Rooms.{no_room, some_room, with_known}
 use Rattle.day_model.proofs.laws.Folds.{get_at, new_before}

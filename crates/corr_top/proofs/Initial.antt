@@ -23,7 +23,7 @@ use Rattle.corr_top.specs.declared.words.Command.TheVariants.{Plain}
 use Rattle.corr_top.specs.declared.words.Plain.TheVariants.{Init}
 use Rattle.corr_top.specs.declared.writing.Texts.{Texts}
 use Rattle.corr_top.specs.Commands.{meaning_of}
-use Rattle.corr_top.specs.Ends.{HasTexts}
+use Rattle.corr_top.specs.inner.Ends.{HasTexts}
 use Rattle.corr_top.specs.Init.{init_steps}
 use Rattle.corr_top.specs.Inputs.{chart_in}
 use Rattle.corr_top.specs.Meaning.{KeepsRest}
@@ -31,7 +31,7 @@ use Rattle.corr_top.specs.OnDisk.{HasNotFailed, IsMakeable, IsOnDisk, IsUnwritte
 use Rattle.corr_top.specs.Passing.{StepIsUntouched, Passes, StopsAt, table_at}
 use Rattle.corr_top.specs.Steps.{Step}
 use Rattle.corr_top.specs.Stops.{status_of_making}
-use Rattle.corr_top.specs.Tables.{HasAccounts, StopsAccounts, account_steps}
+use Rattle.corr_top.specs.inner.Tables.{HasAccounts, StopsAccounts, account_steps}
 use Rattle.corr_top.proofs.Walking.{contained, halts_back, halts_front, walks_both}
 
 -- accounts that have a header have a journal without entries
@@ -80,7 +80,7 @@ module _ {S K D : Type 0} (source : sources.Ghosts S) (d : disks.Ghosts D) (home
   keeps_rest : new.tables.ssi ≡ old.tables.ssi → new.tables.charges ≡ old.tables.charges → new ≡ record old { tables = new.tables; disk = new.disk } → KeepsRest init_steps old new
   keeps_rest ssi charges rest = record {
     tables = tables_rest ssi charges;
-    messages = λ unread. ap (λ (r : Room S K D). r.messages) rest;
+    messages = λ unread unserved. ap (λ (r : Room S K D). r.messages) rest;
     received = λ unread unpacked. ap (λ (r : Room S K D). r.received) rest;
     sent = λ unread. ap (λ (r : Room S K D). r.sent) rest;
     disk2 = λ unread. ap (λ (r : Room S K D). r.disk2) rest;
@@ -95,7 +95,7 @@ module _ {S K D : Type 0} (source : sources.Ghosts S) (d : disks.Ghosts D) (home
     gives = inl (halts_front (Passes source d old new stops.inputs) (StopsAt source d old new stops.inputs s) (StepIsUntouched d old new) account_steps (Step.make ∷ []) stops.halted (ap (λ (r : Room S K D). r.disk) rest, tt));
     rest = record {
       tables = tables_rest stops.ssi stops.charges;
-      messages = λ unread. ap (λ (r : Room S K D). r.messages) rest;
+      messages = λ unread unserved. ap (λ (r : Room S K D). r.messages) rest;
       received = λ unread unpacked. ap (λ (r : Room S K D). r.received) rest;
       sent = λ unread. ap (λ (r : Room S K D). r.sent) rest;
       disk2 = λ unread. ap (λ (r : Room S K D). r.disk2) rest;

@@ -18,7 +18,8 @@ use Rattle.jrn_book.specs.Journal.{IsJournal}
 use Rattle.jrn_codec.specs.Change.{IsWhat, change_bytes}
 use Rattle.jrn_codec.specs.Items.{item_bytes}
 use Rattle.jrn_codec.specs.Record.{entry_bytes}
-use Rattle.corr_top.specs.Ship.{AddsDue, AreDue, is_since, joined_all, records_from}
+use Rattle.corr_top.specs.Ship.{joined_all}
+use Rattle.corr_top.specs.inner.Ship.{AddsDue, AreDue, is_since, records_from}
 
 -- ---- items of which one change, or one entry, comes first
 

@@ -5,7 +5,8 @@ use Rattle.corr_disk.specs.declared.disk.Disk as disks
 use Rattle.jrn_file.specs.File.{disk_of}
 use Rattle.jrn_file.specs.Reading.{opened_of}
 use Rattle.jrn_book.specs.Opening.{HasPurses, IsFound, IsNewBook, BookOpenCause, Opened, finding_in}
-use Rattle.corr_top.specs.OnDisk.{HasOpened, IsUnwritten, StopsOpening}
+use Rattle.corr_top.specs.OnDisk.{IsUnwritten, StopsOpening}
+use Rattle.corr_top.specs.inner.OnDisk.{HasOpened}
 
 module _ {D : Type 0} (d : disks.Ghosts D) where
   -- a disk that nothing was done to is unwritten: since this moment there is no other

@@ -13,15 +13,16 @@ use Rattle.corr_top.specs.declared.tables.TableStop.{TableStop}
 use Rattle.corr_top.specs.declared.words.Command.TheVariants.{Plain}
 use Rattle.corr_top.specs.declared.words.Plain.TheVariants.{Check}
 use Rattle.corr_top.specs.declared.writing.Texts.{Texts}
-use Rattle.corr_top.specs.Check.{GivesVerdicts, check_lines, check_report, check_steps}
+use Rattle.corr_top.specs.Check.{check_lines, check_report, check_steps}
+use Rattle.corr_top.specs.inner.Check.{GivesVerdicts}
 use Rattle.corr_top.specs.Commands.{meaning_of}
-use Rattle.corr_top.specs.Ends.{CommandGives, HasTexts}
+use Rattle.corr_top.specs.inner.Ends.{CommandGives, HasTexts}
 use Rattle.corr_top.specs.Inputs.{Inputs}
 use Rattle.corr_top.specs.Meaning.{KeepsRest}
 use Rattle.corr_top.specs.Passing.{StepIsUntouched, Passes, StopsAt, table_at}
 use Rattle.corr_top.specs.Steps.{Step}
 use Rattle.corr_top.specs.Stops.{status_of_table}
-use Rattle.corr_top.specs.Tables.{HasKnown, StopsKnown, known_steps}
+use Rattle.corr_top.specs.inner.Tables.{HasKnown, StopsKnown, known_steps}
 use Rattle.corr_top.proofs.Walking.{contained, halts_back, halts_front, walks_both}
 
 -- what it leaves as it is, beside the tables of accounts, instructions and charges
@@ -47,7 +48,7 @@ module _ {S K D : Type 0} (source : sources.Ghosts S) (d : disks.Ghosts D) (home
   keeps_rest : KeepsRest check_steps old new
   keeps_rest = record {
     tables = tables_rest;
-    messages = λ unread. absurd (unread (contained Step.messages check_steps refl));
+    messages = λ unread unserved. absurd (unread (contained Step.messages check_steps refl));
     received = λ unread unpacked. rest.received;
     sent = λ unread. rest.sent;
     disk2 = λ unread. rest.disk2;

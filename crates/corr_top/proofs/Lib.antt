@@ -1,5 +1,11 @@
 pub mod KnownParts
 pub mod MessageFiles
+pub mod StreamFiles
+pub mod StreamSteps
+pub mod FeedSteps
+pub mod StreamDay
+pub mod OwnedBatches
+pub mod CutPieces
 pub mod Routes
 pub mod TableFiles
 pub mod AccountRows
@@ -35,10 +41,13 @@ pub mod NoRoom
 pub mod FrontPart
 pub mod Batches
 pub mod Batched
+pub mod FedJobs
 pub mod Chains
 pub mod InTurn
 pub mod OneWorker
 pub mod Workers
+pub mod FedWorkers
+pub mod FedDay
 pub mod Answering
 pub mod Fronts
 pub mod Stopping

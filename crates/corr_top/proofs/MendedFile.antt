@@ -17,15 +17,18 @@ use Rattle.corr_top.specs.declared.words.Command.TheVariants.{Plain}
 use Rattle.corr_top.specs.declared.words.Plain.TheVariants.{Mend}
 use Rattle.corr_top.specs.declared.writing.Texts.{Texts}
 use Rattle.corr_top.specs.Commands.{meaning_of}
-use Rattle.corr_top.specs.Ends.{CommandGives, HasTexts}
+use Rattle.corr_top.specs.inner.Ends.{CommandGives, HasTexts}
 use Rattle.corr_top.specs.Inputs.{Inputs}
 use Rattle.corr_top.specs.Meaning.{KeepsRest}
-use Rattle.corr_top.specs.Mend.{GivesMended, mend_steps}
-use Rattle.corr_top.specs.OnDisk.{HasNotFailed, HasOpened, HoldsJournal, IsUnwritten, StopsOpening}
+use Rattle.corr_top.specs.Mend.{mend_steps}
+use Rattle.corr_top.specs.inner.Mend.{GivesMended}
+use Rattle.corr_top.specs.OnDisk.{HasNotFailed, HoldsJournal, IsUnwritten, StopsOpening}
+use Rattle.corr_top.specs.inner.OnDisk.{HasOpened}
 use Rattle.corr_top.specs.Passing.{StopsAtSent, table_at}
-use Rattle.corr_top.specs.Reading.{IsStopped}
+use Rattle.corr_top.specs.inner.Reading.{IsStopped}
 use Rattle.corr_top.specs.Steps.{Step}
-use Rattle.corr_top.specs.Stops.{file_stop_of_read, status_of_opening}
+use Rattle.corr_top.specs.Stops.{status_of_opening}
+use Rattle.corr_top.specs.inner.Stops.{file_stop_of_read}
 use Rattle.corr_top.proofs.TableFiles.{no_inputs}
 use Rattle.corr_top.proofs.Walking.{contained}
 
@@ -47,7 +50,7 @@ module _ {S K D : Type 0} (source : sources.Ghosts S) (d : disks.Ghosts D) (from
   keeps_rest : KeepsRest mend_steps old new
   keeps_rest = record {
     tables = λ name unread. ap (λ (t : Tables S). table_at name t) rest.tables;
-    messages = λ unread. rest.messages;
+    messages = λ unread unserved. rest.messages;
     received = λ unread unpacked. rest.received;
     sent = λ unread. absurd (unread (contained Step.sent mend_steps refl));
     disk2 = λ unread. rest.disk2;

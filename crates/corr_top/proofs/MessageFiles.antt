@@ -1,6 +1,6 @@
 -- Message files: what their bytes show, and what a cutter that was fed them knows.
-use Rattle.std.proofs.Common.{◌≡◌, ℕ, ◌+◌, ◌-◌, ◌<◌, ◌≤◌, ◌⊎◌, inl, inr, List, [], ◌∷◌, ◌++◌, length, take, drop, Some, None, Ok, refl, sym, ap, ◌∙◌, subst, arith, append_assoc, length-append}
-use Rattle.std.specs.Prelude.{All}
+use Rattle.std.proofs.Common.{◌≡◌, ℕ, ◌+◌, ◌-◌, ◌<◌, ◌≤◌, ◌⊎◌, inl, inr, List, [], ◌∷◌, ◌++◌, length, take, drop, Some, None, Result, Ok, Err, refl, sym, ap, ◌∙◌, subst, arith, append_assoc, length-append}
+use Rattle.std.specs.Prelude.{All, IfOk, IsErr}
 use Rattle.std.specs.List.{position, position_or_len}
 use Rattle.std.proofs.lemmas.List.{append-nil, length-take-le, take-append-drop}
 use Rattle.std.proofs.lemmas.Bool.{cases_lt}
@@ -12,8 +12,9 @@ use Rattle.std.proofs.lemmas.Option.{none-some}
 use Rattle.fin_frame.specs.Cutting.{EndsInput, Knows, WasFed}
 use Rattle.fin_frame.specs.File.{IsCutInto, IsFileOf, lead}
 use Rattle.fin_frame.specs.File.IsFileOf.{start as file_start, more as file_more}
-use Rattle.fin_frame.specs.Machine.{State, at_start, run}
-use Rattle.fin_frame.specs.Shown.{HasBegun, HasNoColon, HaveBegun, is_colon}
+use Rattle.fin_frame.specs.inner.Machine.{State, at_start, run}
+use Rattle.fin_frame.specs.Shown.{HasBegun, HaveBegun}
+use Rattle.fin_frame.specs.inner.Shown.{HasNoColon, is_colon}
 use Rattle.fin_frame.specs.Shown.HasBegun.{begun as has_begun}
 use Rattle.fin_frame.specs.declared.cutter.Cutter.{Cutter}
 use Rattle.fin_frame.specs.declared.fault.FrameFault.{FrameFault}
@@ -26,11 +27,12 @@ use Rattle.fin_frame.proofs.laws.Tracking.{begun-more}
 use Rattle.corr_io.specs.declared.source.Source as sources
 use Rattle.corr_top.specs.declared.cutting.FileStop.{FileStop}
 use Rattle.corr_top.specs.declared.cutting.FileStop.TheVariants as stop_of
-use Rattle.corr_top.specs.Feeding.{HasPassed, StopsFeeding}
+use Rattle.corr_top.specs.inner.Feeding.{HasPassed, StopsFeeding}
 use Rattle.corr_top.specs.MessageFile.{IsMessageFile, IsPassed, IsPast, IsTooLarge, IsUncut, StopsCutting, most_message_bytes}
 use Rattle.corr_top.specs.Passing.{StopsAtMessages}
-use Rattle.corr_top.specs.Reading.{IsStopped, Took}
-use Rattle.corr_top.specs.Stops.{file_stop_of_read}
+use Rattle.corr_top.specs.Reading.{Took}
+use Rattle.corr_top.specs.inner.Reading.{IsStopped}
+use Rattle.corr_top.specs.inner.Stops.{file_stop_of_read}
 use Rattle.corr_top.specs.declared.reading.ReadStop.{ReadStop}
 use Rattle.corr_top.specs.declared.reading.ReadStop.TheVariants as reading
 
@@ -183,7 +185,7 @@ stops_cutting source old new bytes (stop_of.Fault then now) took stops = absurd 
 
 -- ---- the messages of a file are short
 
-short-messages : {file : List ℕ} {messages : List (List ℕ)} {gap : List ℕ} → IsFileOf file messages gap → All (λ m. length m ≤ 16384) messages
+pub short-messages : {file : List ℕ} {messages : List (List ℕ)} {gap : List ℕ} → IsFileOf file messages gap → All (λ m. length m ≤ 16384) messages
 short-messages (file_start gap) = λ k d within. absurd (omega arith)
 short-messages (file_more file message gap messages front is after) =
     All-append (λ m. length m ≤ 16384) messages (message ∷ []) (short-messages front) (All-cons (λ m. length m ≤ 16384) message [] is.1 (λ k d within. absurd (omega arith)))
@@ -222,3 +224,8 @@ no-fault file messages (stop_of.TooLarge bytes n) is large =
 no-fault file messages (stop_of.Framing at) is uncut = absurd (not-uncut file messages at is.cut uncut)
 no-fault file messages stop_of.Memory is stop = refl
 no-fault file messages (stop_of.Fault x y) is stop = absurd stop
+
+-- what can't have an answer fails
+pub err_of : {A E : Type 0} (P : A → Type 0) (r : Result A E) → IfOk r P → ((x : A) → P x → ⊥) → IsErr r
+err_of P (Ok x) holds none = absurd (none x holds)
+err_of P (Err e) holds none = refl

@@ -19,8 +19,8 @@ use Rattle.jrn_book.specs.Batches.{entered_of, history_with, lacks_room}
 use Rattle.work_pool.specs.Served.{ServedWith, StandsIn}
 use Rattle.corr_top.specs.Booking.{EntersFront}
 use Rattle.corr_top.specs.Returned.{booked_on}
-use Rattle.corr_top.specs.Serving.{Serves, halt_of, served_of, starting}
-use Rattle.corr_top.specs.Workers.{Worker}
+use Rattle.corr_top.specs.inner.Serving.{Serves, halt_of, served_of, starting}
+use Rattle.corr_top.specs.inner.Workers.{Worker}
 use Rattle.corr_top.specs.declared.desk.Served.{Served}
 use Rattle.corr_top.proofs.Batches.{HaveServed}
 
@@ -54,7 +54,7 @@ module _ (o : Opening) (pay : Pay) (q p : PassKnows) (made : Served) (answer : A
   one_served = record {
     lists = one_list;
     one_each = refl;
-    rising = λ k numbers at i j m n less first second.
+    rising = λ one k numbers at i j m n less first second.
         let here = only_place (1 ∷ []) numbers k at in
         let later = only_place 1 n j (subst (λ (l : List ℕ). slice_get l j ≡ Some n) (sym here.1) second) in
         absurd (omega (arith, less, later.0));

@@ -23,12 +23,12 @@ use Rattle.corr_top.specs.declared.desk.Halt.{Halt}
 use Rattle.corr_top.specs.declared.desk.Halt.TheVariants as halt
 use Rattle.corr_top.specs.declared.desk.Served.{Served}
 use Rattle.corr_top.specs.declared.desk.Served.TheVariants as served
-use Rattle.corr_top.specs.Workers.{Worker}
+use Rattle.corr_top.specs.inner.Workers.{Worker}
 use Rattle.corr_top.specs.declared.message.NoPay.{NoPay}
 use Rattle.corr_top.specs.Booking.{BeginsNew, EntersFront, LacksRoom}
 use Rattle.jrn_book.specs.Batches.{entered_of}
 use Rattle.corr_top.specs.Message.{pays_in}
-use Rattle.corr_top.specs.Serving.{AnswersMessage, AreEntered, AreServedInOrder, IsFirstFull, IsTried, SaysFailed, Serves, are_replies, halt_of}
+use Rattle.corr_top.specs.inner.Serving.{AnswersMessage, AreEntered, AreServedInOrder, IsFirstFull, IsTried, SaysFailed, Serves, are_replies, halt_of}
 use Rattle.corr_top.proofs.Chains.{Chain, grew}
 use Rattle.corr_top.proofs.FrontPart.{front_on}
 use Rattle.corr_top.proofs.InTurn.{AllTagged, fails_new, first_is, full_shows, goes_on, stops_here, tries_on}

@@ -22,11 +22,11 @@ use Rattle.corr_top.specs.declared.answers.BookStop.{BookStop}
 use Rattle.corr_top.specs.declared.answers.BookStop.TheVariants as booking
 use Rattle.corr_top.specs.declared.message.NoPay.{NoPay}
 use Rattle.corr_top.specs.Booking.{BookCause, EachTried, EntersInOrder, IsBack, IsEnteredOn, StopsEntering}
-use Rattle.corr_top.specs.Collecting.{IsCalm}
-use Rattle.corr_top.specs.Days.{StopCause}
+use Rattle.corr_top.specs.inner.Collecting.{IsCalm}
+use Rattle.corr_top.specs.inner.Days.{StopCause}
 use Rattle.corr_top.specs.Message.{pays_in}
 use Rattle.corr_top.specs.OnDisk.{up_to, HoldsJournal, IsLeft, IsLeftMidway, IsOnDisk, IsUnwritten, LeavesMidway}
-use Rattle.corr_top.specs.Serving.{HasServed}
+use Rattle.corr_top.specs.inner.Serving.{HasServed}
 use Rattle.corr_books.proofs.laws.Moments.{leaves_only}
 use Rattle.corr_disk.proofs.laws.Moments.{then_on, weaker}
 use Rattle.corr_top.proofs.Replying.{get_all}
@@ -68,17 +68,21 @@ module _ {D : Type 0} (d : disks.Ghosts D) (day : Day) (workers most : ℕ) (fro
         inr (subst (λ n. Rose n (d.faults to)) at_open failed.0, subst (λ (x : Day). IsLeftBy (d.honest to) (d.may_leave to) opened.accounts history (up_to most x)) of_day failed.1)
 
     -- what a crash left at a moment since the books were opened, where their count was this, and their day
-    abbrev IsLeftSince : List Entry → ℕ → Day → List ℕ → Type 0
-    IsLeftSince history then today image = StandsBetween opened.accounts opened.base history image ⊎ (Rose then (d.faults to) × StandsWithMore opened.accounts history today most image)
+    abbrev IsLeftSince : List Entry → ℕ → Day → List Entry → List ℕ → Type 0
+    IsLeftSince history then today more image = StandsBetween opened.accounts opened.base history image ⊎ (Rose then (d.faults to) × StandsWithMore opened.accounts history today most more image)
 
     -- and at each moment since the command began
     pub left_midway : (history : List Entry) → LeavesInTurn d (opening_with d opened workers most) (past_of d opened) history to → LeavesMidway d from to opened.accounts opened.base history day most
     left_midway history leaves true_here =
-        let since = leaves_only d opened workers most to (IsLeftSince history opened.at_open opened.day) (leaves (honest ∙ true_here)) in
-        then_on d.moment d.left_since from (disk_of opened.file) to (IsLeftMidway d from to opened.accounts opened.base history day most)
-        (weaker d.moment d.left_since from (disk_of opened.file) (d.may_leave from) (IsLeftMidway d from to opened.accounts opened.base history day most) (λ image x. inl x) unwritten.any_moment)
-        (weaker d.moment d.left_since (disk_of opened.file) to (IsLeftSince history opened.at_open opened.day) (IsLeftMidway d from to opened.accounts opened.base history day most)
-        (λ image x. inr (subst (λ (y : ℕ × Day). IsLeftSince history y.0 y.1 image) (λ i. (at_open i, of_day i)) x)) since)
+        let left = leaves (honest ∙ true_here) in
+        let more = left.0 in
+        let since = leaves_only d opened workers most to (IsLeftSince history opened.at_open opened.day more) left.1 in (
+          more,
+          then_on d.moment d.left_since from (disk_of opened.file) to (IsLeftMidway d from to opened.accounts opened.base history day most more)
+              (weaker d.moment d.left_since from (disk_of opened.file) (d.may_leave from) (IsLeftMidway d from to opened.accounts opened.base history day most more) (λ image x. inl x) unwritten.any_moment)
+              (weaker d.moment d.left_since (disk_of opened.file) to (IsLeftSince history opened.at_open opened.day more) (IsLeftMidway d from to opened.accounts opened.base history day most more)
+              (λ image x. inr (subst (λ (y : ℕ × Day). IsLeftSince history y.0 y.1 more image) (λ i. (at_open i, of_day i)) x)) since),
+        )
 
     cause_of : (pays : List Pay) (history : List Entry) (stop : BookStop) → StopCause (opening_with d opened workers most) pays history (d.faults to) stop
         → BookCause d from to opened.accounts opened.base pays opened.day workers history stop

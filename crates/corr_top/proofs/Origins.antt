@@ -42,7 +42,7 @@ use Rattle.routing.proofs.laws.Routes.{KnowsVia}
 use Rattle.pay_plan.specs.Asked.{amount_in}
 use Rattle.pay_plan.specs.Plan.{plan_of}
 use Rattle.pay_plan.specs.Charging as charging
-use Rattle.pay_plan.specs.Sends.{FollowsMessage, IsChargeOf, IsPayOf}
+use Rattle.pay_plan.specs.inner.Sends.{FollowsMessage, IsChargeOf, IsPayOf}
 use Rattle.pay_plan.specs.declared.ask.Ask.{Ask}
 use Rattle.pay_plan.proofs.laws.Sent.{plan-is}
 use Rattle.advices.specs.Valid.{Asks, CameFrom, IsInMoney, IsTextOf, amount_32a, may_be_charged}
@@ -50,8 +50,9 @@ use Rattle.corr_top.specs.declared.directory.Directory.{Directory}
 use Rattle.corr_top.specs.Asks.{asks_cover, asks_transfer}
 use Rattle.corr_top.specs.Booking.{IsEnteredOn}
 use Rattle.corr_top.specs.Message.{pay_asked_of, pay_in, pays_in, readings_of, refused, unrouted}
-use Rattle.corr_top.specs.Origin.{AreSentValid, SendsAccepted}
-use Rattle.corr_top.specs.Serving.{HasPayShape}
+use Rattle.corr_top.specs.Origin.{AreSentValid}
+use Rattle.corr_top.specs.inner.Origin.{SendsAccepted}
+use Rattle.corr_top.specs.inner.Serving.{HasPayShape}
 use Rattle.corr_top.proofs.Senders.{AsksWell, IsGood, verdict-good}
 
 -- ---- lists

@@ -1,5 +1,5 @@
 -- The page of a day: how that ends before anything is written.
-use Rattle.std.proofs.Common.{◌≡◌, inl, inr, ℕ, List, [], ◌∷◌, ◌++◌, Result, Ok, Err, refl, ap, sym, subst, ◌∙◌}
+use Rattle.std.proofs.Common.{◌≡◌, inl, inr, ℕ, List, [], ◌∷◌, Result, Ok, Err, refl, ap, sym, subst, ◌∙◌}
 use Rattle.std.specs.List.{Contains}
 use Rattle.corr_disk.specs.declared.disk.Disk as disks
 use Rattle.corr_ids.specs.declared.day.Day.{Day}
@@ -14,14 +14,15 @@ use Rattle.corr_top.specs.declared.words.Command.TheVariants.{Plain}
 use Rattle.corr_top.specs.declared.words.Plain.TheVariants.{Page}
 use Rattle.corr_top.specs.declared.writing.Texts.{Texts}
 use Rattle.corr_top.specs.Commands.{meaning_of}
-use Rattle.corr_top.specs.Ends.{CommandGives, HasTexts}
-use Rattle.corr_top.specs.Inputs.{Inputs, directory_in}
+use Rattle.corr_top.specs.inner.Ends.{CommandGives, HasTexts}
+use Rattle.corr_top.specs.Inputs.{Inputs}
 use Rattle.corr_top.specs.Meaning.{KeepsRest}
-use Rattle.corr_top.specs.Page.{GivesPage, GivesShown, HasShown, StopsAtFile, day_page, page_report, page_steps}
+use Rattle.corr_top.specs.Page.{day_page, page_report, page_steps}
+use Rattle.corr_top.specs.inner.Page.{GivesPage, GivesShown, StopsAtFile}
 use Rattle.corr_top.specs.Passing.{HasMessages, Passes, StepIsUntouched, StopsAt, table_at}
 use Rattle.corr_top.specs.Steps.{Halts, Step, Walks}
 use Rattle.corr_top.specs.Stops.{status_of_file, status_of_table}
-use Rattle.corr_top.specs.Tables.{HasDirectory, StopsDirectory, directory_steps}
+use Rattle.corr_top.specs.inner.Tables.{HasDirectory, StopsDirectory, directory_steps}
 use Rattle.corr_top.proofs.Walking.{contained, halts_back, halts_front, walks_both}
 
 -- the steps after the tables
@@ -50,7 +51,7 @@ module _ {S K D : Type 0} (source : sources.Ghosts S) (d : disks.Ghosts D) (day 
   keeps_rest : KeepsRest page_steps old new
   keeps_rest = record {
     tables = tables_rest;
-    messages = λ unread. absurd (unread (contained Step.messages page_steps refl));
+    messages = λ unread unserved. absurd (unread (contained Step.messages page_steps refl));
     received = λ unread unpacked. rest.received;
     sent = λ unread. rest.sent;
     disk2 = λ unread. rest.disk2;

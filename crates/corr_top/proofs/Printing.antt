@@ -12,7 +12,8 @@ use Rattle.day_model.specs.declared.account.Account.{Account}
 use Rattle.day_model.specs.declared.entry.Entry.{Entry}
 use Rattle.corr_top.specs.declared.owners.Owners.{Owners}
 use Rattle.corr_top.specs.Out.{parted_all}
-use Rattle.corr_top.specs.Statements.{Adds, IsStatementOfDay, is_theirs, kind_of, owner_pages, pages_sent}
+use Rattle.corr_top.specs.Statements.{IsStatementOfDay, is_theirs, kind_of, owner_pages, pages_sent}
+use Rattle.corr_top.specs.inner.Statements.{Adds}
 use Rattle.corr_top.proofs.Adding.{numbered_next}
 
 module _ (owners : Owners) (chart : Chart) (entries : List Entry) (day : Day) (n : ℕ) (there : Account) (at : account_at chart n ≡ Some there) where

@@ -19,15 +19,17 @@ use Rattle.corr_top.specs.declared.words.Command.TheVariants.{Plain}
 use Rattle.corr_top.specs.declared.words.Plain.TheVariants.{Reconcile}
 use Rattle.corr_top.specs.declared.writing.Texts.{Texts}
 use Rattle.corr_top.specs.Commands.{meaning_of}
-use Rattle.corr_top.specs.Ends.{CommandGives, HasTexts}
+use Rattle.corr_top.specs.inner.Ends.{CommandGives, HasTexts}
 use Rattle.corr_top.specs.Inputs.{Inputs}
 use Rattle.corr_top.specs.Meaning.{KeepsRest}
-use Rattle.corr_top.specs.OnDisk.{HasNotFailed, HasOpened, HoldsJournal, IsUnwritten, StopsOpening}
+use Rattle.corr_top.specs.OnDisk.{HasNotFailed, HoldsJournal, IsUnwritten, StopsOpening}
+use Rattle.corr_top.specs.inner.OnDisk.{HasOpened}
 use Rattle.corr_top.specs.Passing.{StepIsUntouched, Passes, StopsAt, table_at}
-use Rattle.corr_top.specs.Reconcile.{GivesBreaks, break_report, reconcile_report, reconcile_steps}
+use Rattle.corr_top.specs.Reconcile.{break_report, reconcile_report, reconcile_steps}
+use Rattle.corr_top.specs.inner.Reconcile.{GivesBreaks}
 use Rattle.corr_top.specs.Steps.{Halts, Step, Walks}
 use Rattle.corr_top.specs.Stops.{status_of_opening, status_of_table}
-use Rattle.corr_top.specs.Tables.{HasKnown, StopsKnown, known_steps}
+use Rattle.corr_top.specs.inner.Tables.{HasKnown, StopsKnown, known_steps}
 use Rattle.corr_top.proofs.Walking.{contained, halts_back, halts_front, walks_both}
 
 -- what it leaves as it is, beside the tables of accounts, instructions and charges
@@ -52,7 +54,7 @@ module _ {S K D : Type 0} (source : sources.Ghosts S) (d : disks.Ghosts D) (old 
   keeps_rest : KeepsRest reconcile_steps old new
   keeps_rest = record {
     tables = tables_rest;
-    messages = λ unread. rest.messages;
+    messages = λ unread unserved. rest.messages;
     received = λ unread unpacked. absurd (unread (contained Step.received reconcile_steps refl));
     sent = λ unread. rest.sent;
     disk2 = λ unread. rest.disk2;

@@ -57,7 +57,7 @@ named_from pay entries (Some place) r at is =
     named_at pay place entries (slice_get entries (place - 1)) r (w.0, omega (arith, w.1)) is
 
 -- a message without a pay names none
-names_none : (entries : List Entry) (why : NoPay) → NamesPlace entries (reply_for why)
+pub names_none : (entries : List Entry) (why : NoPay) → NamesPlace entries (reply_for why)
 names_none entries (no_pay.Refused mir fault) = tt
 names_none entries (no_pay.Unrouted mir code) = tt
 

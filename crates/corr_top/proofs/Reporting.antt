@@ -11,7 +11,7 @@ use Rattle.corr_report.specs.Report.{NamesPlace, count_line, reply_line, report_
 use Rattle.corr_report.specs.Totals.{total_lines}
 use Rattle.corr_top.specs.declared.desk.Served.{Served}
 use Rattle.corr_top.specs.declared.desk.Served.TheVariants as served
-use Rattle.corr_top.specs.Serving.{are_replies}
+use Rattle.corr_top.specs.inner.Serving.{are_replies}
 use Rattle.corr_top.proofs.Adding.{numbered_done, numbered_next}
 use Rattle.corr_top.proofs.Batches.{get_there}
 

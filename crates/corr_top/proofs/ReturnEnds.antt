@@ -27,7 +27,8 @@ use Rattle.corr_top.specs.declared.status.Status.{Status}
 use Rattle.corr_top.specs.declared.words.Command.TheVariants.{Return}
 use Rattle.corr_top.specs.declared.writing.Texts.{Texts}
 use Rattle.corr_top.specs.Commands.{meaning_of}
-use Rattle.corr_top.specs.Ends.{CommandGives, HasPassed, HasTexts}
+use Rattle.corr_top.specs.Ends.{HasPassed}
+use Rattle.corr_top.specs.inner.Ends.{CommandGives, HasTexts}
 use Rattle.corr_top.specs.Inputs.{Inputs, new_in}
 use Rattle.corr_top.specs.Meaning.{KeepsRest}
 use Rattle.corr_top.specs.OnDisk.{HoldsJournal, IsOnDisk, IsUnwritten, LeavesMidway, StopsOpening}
@@ -36,7 +37,7 @@ use Rattle.corr_top.specs.Out.{booked_from, sent_from}
 use Rattle.corr_top.specs.Passing.{table_at}
 use Rattle.corr_top.specs.Return.{return_report, return_steps}
 use Rattle.corr_top.specs.Returned.{booked_on}
-use Rattle.corr_top.specs.Returning.{GivesBooked, GivesReturned, HasBooked, StopsAtPay, asks_for}
+use Rattle.corr_top.specs.inner.Returning.{GivesBooked, GivesReturned, HasBooked, StopsAtPay, asks_for}
 use Rattle.corr_top.specs.Run.{run_out}
 use Rattle.corr_top.specs.Stops.{status_of_booking, status_of_books, status_of_day, status_of_opening, status_of_return}
 use Rattle.corr_top.proofs.OnePay.{one_booked}
@@ -58,7 +59,7 @@ module _ {S K D : Type 0} (source : sources.Ghosts S) (d : disks.Ghosts D) (plac
   keeps_rest : KeepsRest return_steps old new
   keeps_rest = record {
     tables = λ name unread. ap (table_at name) rest.tables;
-    messages = λ unread. rest.messages;
+    messages = λ unread unserved. rest.messages;
     received = λ unread unpacked. rest.received;
     sent = λ unread. rest.sent;
     disk2 = λ unread. rest.disk2;

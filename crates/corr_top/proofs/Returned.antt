@@ -21,7 +21,7 @@ use Rattle.pay_returns.specs.Making.{MayReturn}
 use Rattle.ref_tables.specs.Seen.{Tables}
 use Rattle.corr_top.specs.Origin.{AreSentValid}
 use Rattle.corr_top.specs.Out.{entry_out, parted_all}
-use Rattle.corr_top.specs.Returning.{GivesLast}
+use Rattle.corr_top.specs.inner.Returning.{GivesLast}
 use Rattle.corr_top.specs.declared.writing.Texts.{Texts}
 use Rattle.corr_top.proofs.Replying.{get_all}
 

@@ -25,6 +25,7 @@ use Rattle.jrn_file.specs.Reading.{opened_of}
 use Rattle.jrn_file.specs.declared.fault.OpenFault.{OpenFault}
 use Rattle.ref_tables.specs.declared.fault.TableName.{TableName}
 use Rattle.ref_tables.specs.declared.fault.TableName.TheVariants as names
+use Rattle.corr_top.specs.declared.answers.BookStop.TheVariants as booking
 use Rattle.corr_top.specs.declared.directory.Directory.{Directory}
 use Rattle.corr_top.specs.declared.room.Room.{Room}
 use Rattle.corr_top.specs.declared.status.Status.{Status}
@@ -33,19 +34,20 @@ use Rattle.corr_top.specs.declared.words.Command.TheVariants.{Run}
 use Rattle.corr_top.specs.declared.writing.Texts.{Texts}
 use Rattle.corr_top.specs.Booking.{AreAnswered, IsEnteredOn, StopsBooking, StopsEntering}
 use Rattle.corr_top.specs.Commands.{meaning_of}
-use Rattle.corr_top.specs.Days.{GivesDay, HasDay, StopsAtFile, StopsAtPays}
-use Rattle.corr_top.specs.Ends.{CommandGives, HasPassed, HasTexts}
+use Rattle.corr_top.specs.inner.Days.{GivesDay, HasDay, HasNoDay, StopsAtFile, StopsAtPays}
+use Rattle.corr_top.specs.Ends.{HasPassed}
+use Rattle.corr_top.specs.inner.Ends.{CommandGives, HasTexts}
 use Rattle.corr_top.specs.Inputs.{Inputs, new_in, pays_of, replies_of, tables_in}
 use Rattle.corr_top.specs.Message.{pays_in, readings_of, replies_in}
 use Rattle.corr_top.specs.Meaning.{KeepsRest}
 use Rattle.corr_top.specs.OnDisk.{HoldsJournal, IsOnDisk, IsUnwritten, LeavesMidway, StopsOpening}
 use Rattle.corr_top.specs.Origin.{AreSentValid}
 use Rattle.corr_top.specs.Out.{sent_from}
-use Rattle.corr_top.specs.Passing.{StepIsUntouched, Passes, StopsAt, table_at}
+use Rattle.corr_top.specs.Passing.{StepIsUntouched, Passes, StopsAt, StopsServing, table_at}
 use Rattle.corr_top.specs.Run.{run_out, run_report, run_steps}
 use Rattle.corr_top.specs.Steps.{Halts, Step, Walks}
 use Rattle.corr_top.specs.Stops.{status_of_books, status_of_day, status_of_opening, status_of_table}
-use Rattle.corr_top.specs.Tables.{HasDirectory, StopsDirectory, directory_steps}
+use Rattle.corr_top.specs.inner.Tables.{HasDirectory, StopsDirectory, directory_steps}
 use Rattle.day_model.proofs.laws.Folds.{legal_fold}
 use Rattle.corr_top.proofs.OpenedBooks.{closed_alone, entering_stops, found_is, holds_opened, is_back, left_midway}
 use Rattle.corr_top.proofs.Replying.{get_all}
@@ -53,7 +55,7 @@ use Rattle.corr_top.proofs.Walking.{contained, halts_back, halts_front, walks_bo
 
 -- the steps of a run after its tables
 abbrev pub day_steps : List Step
-day_steps = Step.open_journal ∷ Step.day ∷ Step.messages ∷ Step.book ∷ []
+day_steps = Step.open_journal ∷ Step.day ∷ Step.serve ∷ []
 
 -- what a run leaves as it is
 pub record IsRest {S K D : Type 0} (old new : Room S K D) : Type 0 where
@@ -77,7 +79,7 @@ module _ {S K D : Type 0} (source : sources.Ghosts S) (d : disks.Ghosts D) (day 
   keeps_rest : KeepsRest run_steps old new
   keeps_rest = record {
     tables = tables_rest;
-    messages = λ unread. absurd (unread (contained Step.messages run_steps refl));
+    messages = λ unread unserved. absurd (unserved (contained Step.serve run_steps refl));
     received = λ unread unpacked. rest.received;
     sent = λ unread. rest.sent;
     disk2 = λ unread. rest.disk2;
@@ -96,7 +98,7 @@ module _ {S K D : Type 0} (source : sources.Ghosts S) (d : disks.Ghosts D) (day 
       let i = record stops.at.inputs { day = day; workers = workers; entries = entries } in
       gives_run (Err (status_of_table stop)) i refl refl refl
       (inl (halts_front (Passes source d old new i) (StopsAt source d old new i (status_of_table stop)) (StepIsUntouched d old new)
-      directory_steps day_steps stops.at.halted (disk, (tt, (messages, (unwritten, tt))))))
+      directory_steps day_steps stops.at.halted (disk, (tt, ((messages, unwritten), tt)))))
 
   -- the tables were read, and a step after them stopped it
   after_tables : (i : Inputs) (s : Status) (steps : List Step) → Walks (Passes source d old new i) directory_steps
@@ -112,7 +114,7 @@ module _ {S K D : Type 0} (source : sources.Ghosts S) (d : disks.Ghosts D) (day 
         let i = record has.inputs { day = day; workers = workers; entries = entries } in
         gives_run (Err (status_of_opening fault)) i refl refl refl
         (inl (after_tables i (status_of_opening fault) day_steps has.passed
-        (inl ((fault, refl, stops), (tt, (messages, (stops.untouched, tt)))))))
+        (inl ((fault, refl, stops), (tt, ((messages, stops.untouched), tt))))))
 
     -- or for the day of the last entry
     back_stops : (last : Day) → OpensBack (opened_of (d.reads old.disk)) (d.honest old.disk) day last → d.faults new.disk ≡ d.faults old.disk → IsUnwritten d old.disk new.disk → new.messages ≡ old.messages
@@ -123,7 +125,7 @@ module _ {S K D : Type 0} (source : sources.Ghosts S) (d : disks.Ghosts D) (day 
         let holds : HoldsJournal d old.disk shows.accounts shows.history = record { journal = shows.journal; stands = λ honest. (shows.found honest).1 } in
         gives_run (Err (status_of_day last)) i refl refl refl
         (inl (after_tables i (status_of_day last) day_steps has.passed
-        (inr (holds, inl ((last, refl, is_back shows.accounts shows.history day last shows.journal shows.back, sure), (messages, (unwritten, tt)))))))
+        (inr (holds, inl ((last, refl, is_back shows.accounts shows.history day last shows.journal shows.back, sure), ((messages, unwritten), tt))))))
 
     -- opening the books stopped it
     pub books_stop : (fault : BooksFault) → BooksCause (d.faults old.disk) (d.faults new.disk) fault → (IsTrue (d.honest old.disk) → IsTrue (is_of_bytes fault) → (finding : Finding) × IsFound (opened_of (d.reads old.disk)) finding × RefusesAs day fault finding)
@@ -153,15 +155,36 @@ module _ {S K D : Type 0} (source : sources.Ghosts S) (d : disks.Ghosts D) (day 
       midway : (history : List Entry) → LeavesInTurn d books (past_of d opened) history new.disk → LeavesMidway d old.disk new.disk opened.accounts opened.base history day entries
       midway = left_midway d day workers entries old.disk new.disk opened at_open honest of_day unwritten
 
-      -- the first steps passed, up to the message file
+      -- the first steps passed, up to the serving of the message file, which stops so
+      serving_stops : (i : Inputs) (s : Status) → Walks (Passes source d old new i) directory_steps → HoldsJournal d old.disk i.chart i.history → IsLatest i.history i.day → StopsServing source d old new i s
+          → Halts (Passes source d old new i) (StopsAt source d old new i s) (StepIsUntouched d old new) (directory_steps ++ day_steps)
+      serving_stops i s passed held last stops = after_tables i s day_steps passed (inr (held, inr (last, inl (stops, tt))))
+
+      -- it didn't begin
+      pub none_served : (s : Status) → HasNoDay source d directory workers entries old.messages new.messages opened new.disk s → HasTexts source d (meaning_of (Run day workers entries)) old new (Err s)
+      unfolding meaning_of
+      none_served s stops =
+          let disk = stops.same in
+          let i = i_of [] [] [] in
+          gives_run (Err s) i refl refl refl
+          (inl (serving_stops i s has.passed holds latest (inl (record {
+            status_is = stops.status_is;
+            kept = stops.kept;
+            sure = ap d.faults disk ∙ kept;
+            unwritten = subst (IsUnwritten d old.disk) (sym disk) unwritten;
+          }))))
+
+      -- the file stopped it, with some of its messages served
       pub file_stops : (s : Status) → StopsAtFile source d directory workers entries old.messages new.messages opened new.disk s → HasTexts source d (meaning_of (Run day workers entries)) old new (Err s)
       unfolding meaning_of
       file_stops s stops =
-          let disk = stops.same in
-          let i = i_of stops.bytes [] [] in
+          let i = i_of stops.bytes stops.given [] in
+          let pays = same_pays stops.bytes stops.given [] in
+          let left : StopsBooking d old.disk new.disk i booking.Memory = subst (λ (ps : List Pay). StopsEntering d old.disk new.disk opened.accounts opened.base ps day workers entries booking.Memory) (sym pays)
+          (entering_stops d day workers entries old.disk new.disk opened at_open honest of_day unwritten (readings_of directory opened.accounts stops.given) stops.history booking.Memory stops.served tt
+          (λ one. record { entered = stops.alone one; stops = tt }) tt) in
           gives_run (Err s) i refl refl refl
-          (inl (after_tables i s day_steps has.passed
-          (inr (holds, inr (latest, inl ((stops.stop, stops.status_is, stops.stops, ap d.faults disk ∙ kept), (subst (IsUnwritten d old.disk) (sym disk) unwritten, tt)))))))
+          (inl (serving_stops i s has.passed holds latest (inr (inl (record { stop = stops.stop; status_is = stops.status_is; stops = stops.stops; given = stops.are_given; left = left })))))
 
       -- not each pay was entered
       pub pays_stop : (s : Status) → StopsAtPays source d directory workers entries old.messages new.messages opened new.disk s → HasTexts source d (meaning_of (Run day workers entries)) old new (Err s)
@@ -172,8 +195,7 @@ module _ {S K D : Type 0} (source : sources.Ghosts S) (d : disks.Ghosts D) (day 
           let booked : StopsBooking d old.disk new.disk i stops.stop = subst (λ (ps : List Pay). StopsEntering d old.disk new.disk opened.accounts opened.base ps day workers entries stops.stop) (sym pays)
           (entering_stops d day workers entries old.disk new.disk opened at_open honest of_day unwritten (readings_of directory opened.accounts stops.cut) stops.history stops.stop stops.served stops.tried stops.alone stops.cause) in
           gives_run (Err s) i refl refl refl
-          (inl (after_tables i s day_steps has.passed
-          (inr (holds, inr (latest, inr (stops.file, inl ((stops.stop, stops.status_is, booked), tt)))))))
+          (inl (serving_stops i s has.passed holds latest (inr (inr (record { stop = stops.stop; status_is = stops.status_is; file = stops.file; left = booked })))))
 
       -- the pays that were entered, in the order of the journal
       abbrev entered_of : List Entry → List Pay
@@ -206,7 +228,7 @@ module _ {S K D : Type 0} (source : sources.Ghosts S) (d : disks.Ghosts D) (day 
           let on : (d.faults new.disk ≡ opened.at_open) × IsOnDisk d new.disk opened.accounts history = closed_alone d day workers entries old.disk new.disk opened history had.calm served.leaves in (
             record {
               passed = walks_both (Passes source d old new i) directory_steps day_steps has.passed
-                  (holds, (latest, (had.file, (answered, tt))));
+                  (holds, (latest, ((had.file, answered), tt)));
               leaves = record {
                 sure = on.0 ∙ at_open;
                 entered = subst (λ es. IsOnDisk d new.disk opened.accounts es) history_is on.1;
@@ -233,12 +255,14 @@ module _ {S K D : Type 0} (source : sources.Ghosts S) (d : disks.Ghosts D) (day 
             subst (λ es. AreSentValid (tables_in i) opened.accounts (length opened.base + 1) es) done.1
                 (subst (λ (x : Directory). AreSentValid x.tables opened.accounts (length opened.base + 1) history) has.directory_is gives.7),
           )
-      day_ends (Err s) (inl stops) = file_stops s stops
-      day_ends (Err s) (inr stops) = pays_stop s stops
+      day_ends (Err s) (inl stops) = none_served s stops
+      day_ends (Err s) (inr (inl stops)) = file_stops s stops
+      day_ends (Err s) (inr (inr stops)) = pays_stop s stops
 
 -- whether the disk tells its bytes stays
 pub day_honest : {S D : Type 0} (source : sources.Ghosts S) (d : disks.Ghosts D) (directory : Directory) (workers entries : ℕ) (from to : S) (opened : Parts D) (new : D) (r : Result Texts Status)
     → GivesDay source d directory workers entries from to opened new r → d.honest new ≡ d.honest (disk_of opened.file)
 day_honest source d directory workers entries from to opened new (Ok texts) gives = gives.4.served.honest
 day_honest source d directory workers entries from to opened new (Err s) (inl stops) = ap d.honest stops.same
-day_honest source d directory workers entries from to opened new (Err s) (inr stops) = stops.served.honest
+day_honest source d directory workers entries from to opened new (Err s) (inr (inl stops)) = stops.served.honest
+day_honest source d directory workers entries from to opened new (Err s) (inr (inr stops)) = stops.served.honest

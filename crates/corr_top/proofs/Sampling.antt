@@ -31,8 +31,9 @@ use Rattle.corr_top.specs.OnDisk.{HasNotFailed, IsMakeable, IsOnDisk, MakesInTur
 use Rattle.corr_top.specs.Passing.{IsFine, table_fault, table_file, table_at}
 use Rattle.corr_top.specs.Reading.{IsRead, Took}
 use Rattle.corr_top.specs.Samples.{sample_accounts, sample_bics, sample_ccys, sample_countries, sample_home, sample_ssi}
-use Rattle.corr_top.specs.Tables.{HasAccounts, HasDirectory}
-use Rattle.corr_top.specs.Trial.{AreSampleFiles, IsNewDisk, supply_of, sample_chart, sample_directory}
+use Rattle.corr_top.specs.inner.Tables.{HasAccounts, HasDirectory}
+use Rattle.corr_top.specs.Trial.{sample_chart, sample_directory}
+use Rattle.corr_top.specs.inner.Trial.{AreSampleFiles, IsNewDisk, supply_of}
 
 -- ---- a file in memory is read whole
 

@@ -27,9 +27,9 @@ use Rattle.corr_books.specs.Stand.{entries_of, history_of}
 use Rattle.corr_books.specs.Telling.{Grows, IsAdded, Told, entry_on, known_to}
 use Rattle.corr_books.proofs.laws.Histories.{entries_of-append, history_prefix, length-history_of}
 use Rattle.corr_top.specs.declared.desk.Served.{Served}
-use Rattle.corr_top.specs.Workers.{Worker}
+use Rattle.corr_top.specs.inner.Workers.{Worker}
 use Rattle.corr_top.specs.declared.message.NoPay.{NoPay}
-use Rattle.corr_top.specs.Serving.{AnswersMessage, IsTold, Serves, served_of}
+use Rattle.corr_top.specs.inner.Serving.{AnswersMessage, IsTold, Serves, served_of}
 use Rattle.corr_top.proofs.Replying.{reply_here, reply_stays}
 
 -- ---- lists

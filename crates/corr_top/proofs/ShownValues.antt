@@ -1,5 +1,5 @@
 -- The value date and the amount of a message that was read can be written.
-use Rattle.std.proofs.Common.{◌≡◌, ℕ, List, [], ◌∷◌, Result, Ok, subst, ◌∙◌}
+use Rattle.std.proofs.Common.{◌≡◌, ℕ, List, [], ◌∷◌, Ok, subst, ◌∙◌}
 use Rattle.std.specs.Prelude.{IsTrue, unwrap_or}
 use Rattle.fin_contents.specs.Money.{ccy_amount_of, rate_of, value_of}
 use Rattle.fin_contents.specs.Plain.{reference_of, texts_of, time_of}
@@ -18,12 +18,12 @@ use Rattle.mt103.specs.Codes.{instr_of, kind_of, operation_of}
 use Rattle.mt103.specs.Instructions.{d98, e46}
 use Rattle.mt103.specs.Message as m103
 use Rattle.mt103.specs.Order.{order_103}
-use Rattle.mt103.specs.Parts as p103
+use Rattle.mt103.specs.inner.Parts as p103
 use Rattle.mt103.specs.declared.message.Mt103.{Mt103}
 use Rattle.mt103.proofs.laws.Parts as laws103
 use Rattle.mt202cov.specs.Message as m202
 use Rattle.mt202cov.specs.Order.{order_202}
-use Rattle.mt202cov.specs.Parts as p202
+use Rattle.mt202cov.specs.inner.Parts as p202
 use Rattle.mt202cov.specs.Rules.{all_rules}
 use Rattle.mt202cov.specs.declared.message.Mt202Cov.{Mt202Cov}
 use Rattle.mt202cov.specs.declared.sequences.SequenceA.{SequenceA}

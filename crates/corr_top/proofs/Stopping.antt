@@ -28,8 +28,8 @@ use Rattle.corr_top.specs.Changed.{what_of}
 use Rattle.corr_top.specs.Ends.{HasStopped}
 use Rattle.corr_top.specs.Inputs.{Inputs}
 use Rattle.corr_top.specs.Meaning.{Meaning}
-use Rattle.corr_top.specs.Passing.{StepIsUntouched, Passes, StopsAt, StopsAtSums}
-use Rattle.corr_top.specs.Promise.{writes}
+use Rattle.corr_top.specs.Passing.{StepIsUntouched, Passes, StopsAt, StopsAtSums, StopsServing}
+use Rattle.corr_top.specs.promises.Books.{writes}
 use Rattle.corr_top.specs.Status.{HasLine}
 use Rattle.corr_top.specs.Steps.{Halts, Step}
 use Rattle.corr_top.specs.Stops.{status_of_booking, status_of_change, status_of_copying, status_of_file, status_of_making, status_of_opening, status_of_return, status_of_sums, status_of_table, status_of_taking}
@@ -107,6 +107,11 @@ memory_stop : IsStop status.Memory
 memory_stop = record { line = tt; silent = refl }
 
 module _ {S K D : Type 0} (source : sources.Ghosts S) (disk : disks.Ghosts D) (old new : Room S K D) (i : Inputs) (s : Status) where
+  serving_stop : StopsServing source disk old new i s → IsStop s
+  serving_stop (inl none) = subst IsStop (sym none.status_is) memory_stop
+  serving_stop (inr (inl in_file)) = subst IsStop (sym in_file.status_is) (file_stop in_file.stop)
+  serving_stop (inr (inr in_pays)) = subst IsStop (sym in_pays.status_is) (booking_stop in_pays.stop)
+
   step_stop : (step : Step) → StopsAt source disk old new i s step → IsStop s
   step_stop (Step.table name) stops = subst IsStop (sym stops.1) (table_stop stops.0)
   step_stop Step.sums stops = subst IsStop (sym stops.1) (sums_stop i stops.0 stops.2)
@@ -114,7 +119,7 @@ module _ {S K D : Type 0} (source : sources.Ghosts S) (disk : disks.Ghosts D) (o
   step_stop Step.open_journal stops = subst IsStop (sym stops.1) (opening_stop stops.0)
   step_stop Step.day stops = subst IsStop (sym stops.1) (record { line = stops.2.century; silent = refl })
   step_stop Step.messages stops = subst IsStop (sym stops.1) (file_stop stops.0)
-  step_stop Step.book stops = subst IsStop (sym stops.1) (booking_stop stops.0)
+  step_stop Step.serve stops = serving_stop stops
   step_stop Step.received stops = subst IsStop (sym stops.1) (file_stop stops.0)
   step_stop Step.sent stops = subst IsStop (sym stops.1) (file_stop stops.0)
   step_stop Step.change (inl row) = subst IsStop (sym row.1) (record { line = tt; silent = refl })

@@ -26,14 +26,16 @@ use Rattle.corr_top.specs.declared.reading.ReadStop.TheVariants as stop
 use Rattle.corr_top.specs.declared.tables.TableStop.{TableStop}
 use Rattle.standby.specs.Held.{nothing}
 use Rattle.corr_top.specs.Inputs.{Inputs, accounts_in, directory_in, opened, tables_in}
-use Rattle.corr_top.specs.Passing.{Bad, Balances, IsFine, StopsAtSums, StopsAtTable, TellsDecimals}
-use Rattle.corr_top.specs.Reading.{IsStopped}
+use Rattle.corr_top.specs.Passing.{Bad, Balances, IsFine, StopsAtSums, StopsAtTable}
+use Rattle.corr_top.specs.inner.Passing.{TellsDecimals}
+use Rattle.corr_top.specs.inner.Reading.{IsStopped}
 use Rattle.corr_top.specs.Steps.{Halts, Step, Walks}
-use Rattle.corr_top.specs.Tables.{AreUntouched, HasAccounts, HasDirectory, PassesTables, StopsAccounts, StopsAtTables, StopsDirectory, StopsKnown, known_steps}
+use Rattle.corr_top.specs.inner.Tables.{AreUntouched, HasAccounts, HasDirectory, PassesTables, StopsAccounts, StopsAtTables, StopsDirectory, StopsKnown, known_steps}
 use Rattle.corr_top.proofs.Walking.{halts_back, halts_front, walks_both}
 use Rattle.corr_top.specs.declared.room.Tables.{Tables as Files}
 use Rattle.corr_top.specs.declared.status.Status.TheVariants as no_memory
-use Rattle.corr_top.specs.Stops.{status_of_table, table_stop_of_read}
+use Rattle.corr_top.specs.Stops.{status_of_table}
+use Rattle.corr_top.specs.inner.Stops.{table_stop_of_read}
 
 -- tables with other currencies, or other countries
 abbrev pub with_ccys : List ℕ → Tables → Tables

@@ -28,8 +28,9 @@ use Rattle.corr_top.specs.Booking.{IsEnteredOn}
 use Rattle.corr_top.specs.Message.{pay_asked_of, pays_in, readings_of}
 use Rattle.corr_top.specs.OnDisk.{IsOnDisk}
 use Rattle.corr_top.specs.Samples.{sample_day}
-use Rattle.corr_top.specs.Serving.{HasServed}
-use Rattle.corr_top.specs.Trial.{BooksEach, IsBooked, IsBearable, IsTrial, IsWholeDay, ServesTrial, StaysWithin, sample_chart, sample_directory, trial_history, trial_pays, trial_report}
+use Rattle.corr_top.specs.inner.Serving.{HasServed}
+use Rattle.corr_top.specs.Trial.{BooksEach, IsBooked, sample_chart, sample_directory, trial_history, trial_pays, trial_report}
+use Rattle.corr_top.specs.inner.Trial.{IsBearable, IsTrial, IsWholeDay, ServesTrial, StaysWithin}
 use Rattle.corr_report.proofs.laws.Reordered.{summary_reordered}
 use Rattle.corr_top.proofs.Replying.{all_one, get_all}
 use Rattle.corr_report.proofs.laws.Settled.{AreBorne, booked_on}

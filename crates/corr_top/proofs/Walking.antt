@@ -26,7 +26,7 @@ walked has (d ∷ steps) s all (inr at) = walked has steps s all.1 at
 -- the kinds of steps
 abbrev all_steps : List Step
 all_steps =
-    Step.sums ∷ Step.make ∷ Step.open_journal ∷ Step.day ∷ Step.messages ∷ Step.book ∷ Step.received
+    Step.sums ∷ Step.make ∷ Step.open_journal ∷ Step.day ∷ Step.messages ∷ Step.serve ∷ Step.received
     ∷ Step.table names.Bics ∷ Step.table names.Ccys ∷ Step.table names.Countries ∷ Step.table names.Accounts ∷ Step.table names.Ssi
     ∷ Step.table names.Charges ∷ Step.change ∷ Step.second ∷ Step.old_journal ∷ Step.copy ∷ Step.sent ∷ Step.make_return ∷ Step.book_return ∷ Step.aside
     ∷ Step.begin ∷ Step.packets ∷ Step.take ∷ []
@@ -38,7 +38,7 @@ step_place Step.make = 1
 step_place Step.open_journal = 2
 step_place Step.day = 3
 step_place Step.messages = 4
-step_place Step.book = 5
+step_place Step.serve = 5
 step_place Step.received = 6
 step_place (Step.table names.Bics) = 7
 step_place (Step.table names.Ccys) = 8
@@ -64,7 +64,7 @@ at_place Step.make = refl
 at_place Step.open_journal = refl
 at_place Step.day = refl
 at_place Step.messages = refl
-at_place Step.book = refl
+at_place Step.serve = refl
 at_place Step.received = refl
 at_place (Step.table names.Bics) = refl
 at_place (Step.table names.Ccys) = refl

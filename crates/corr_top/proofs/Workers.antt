@@ -1,5 +1,5 @@
 -- All workers together: what stands when their passes are back and the books are closed.
-use Rattle.std.proofs.Common.{◌≡◌, ℕ, zero, suc, ◌+◌, ◌-◌, ◌<◌, ◌≤◌, All, List, [], ◌∷◌, ◌++◌, length, map, Some, Result, Ok, Err, refl, sym, ap, ◌∙◌, subst, arith, append-nil}
+use Rattle.std.proofs.Common.{◌≡◌, ℕ, zero, suc, ◌+◌, ◌-◌, ◌≤◌, All, List, [], ◌∷◌, ◌++◌, length, map, Some, Result, Ok, Err, refl, sym, ap, ◌∙◌, subst, arith, append-nil}
 use Rattle.std.specs.Prelude.{IfErr, IfOk, OnErr, slice_get}
 use Rattle.std.proofs.lemmas.List.{length-map}
 use Rattle.std.proofs.lemmas.List.Elements.{All-append, All-nil}
@@ -17,11 +17,11 @@ use Rattle.corr_books.specs.Opening.{Opening}
 use Rattle.corr_books.specs.Passes.{AreNew}
 use Rattle.corr_books.specs.Stand.{entries_of, history_of}
 use Rattle.corr_top.specs.declared.desk.Served.{Served}
-use Rattle.corr_top.specs.Workers.{Worker}
+use Rattle.corr_top.specs.inner.Workers.{Worker}
 use Rattle.corr_top.specs.declared.message.NoPay.{NoPay}
 use Rattle.corr_top.specs.Booking.{IsEnteredOn}
 use Rattle.corr_top.specs.Message.{pays_in}
-use Rattle.corr_top.specs.Serving.{AreServedInOrder, AreTold, IsTold, Serves, starting}
+use Rattle.corr_top.specs.inner.Serving.{AreServedInOrder, AreTold, IsTold, Serves, starting}
 use Rattle.corr_top.proofs.Chains.{Chain, IsServed, each_stands, grew, of_jobs}
 use Rattle.corr_top.proofs.Batches.{HaveServed, get_mapped, get_there, unmapped}
 use Rattle.corr_top.proofs.Replying.{all_one}
@@ -39,7 +39,7 @@ in_pays (Ok p ∷ readings) (suc n) pay at = let r = in_pays readings n pay at i
 in_pays (Err why ∷ readings) zero pay at = absurd (cc (at))
 in_pays (Err why ∷ readings) (suc n) pay at = in_pays readings n pay at
 
-all_entries : (P : Entry → Type 0) (log : List Act) → ((i : ℕ) (a : Act) → slice_get log i ≡ Some a → P a.entry) → All P (entries_of log)
+pub all_entries : (P : Entry → Type 0) (log : List Act) → ((i : ℕ) (a : Act) → slice_get log i ≡ Some a → P a.entry) → All P (entries_of log)
 all_entries P [] each = All-nil P
 all_entries P (a ∷ log) each = All-append P (a.entry ∷ []) (entries_of log) (all_one P a.entry (each 0 a refl)) (all_entries P log (λ i b at. each (suc i) b at))
 
@@ -49,7 +49,7 @@ nothing [] none = refl
 nothing (x ∷ xs) none = absurd (none 0 x refl)
 
 -- a list of one
-single_of : {A : Type 0} (xs : List A) → length xs ≡ 1 → (x : A) × (xs ≡ x ∷ [])
+pub single_of : {A : Type 0} (xs : List A) → length xs ≡ 1 → (x : A) × (xs ≡ x ∷ [])
 single_of [] one = absurd (omega (arith, one))
 single_of (x ∷ []) one = (x, refl)
 single_of (x ∷ y ∷ xs) one = absurd (omega (arith, one))
@@ -66,7 +66,7 @@ module _ {Job : Type 0} (o : Opening) (reading : Job → Result Pay NoPay) (jobs
   abbrev pub readings : List (Result Pay NoPay)
   readings = map reading jobs
 
-  added_here : (e : Entry) (k : ℕ) (job : Job) → slice_get jobs k ≡ Some job → IsFrom o (reading job) e → IsEnteredOn o.day (pays_in readings) e
+  pub added_here : (e : Entry) (k : ℕ) (job : Job) → slice_get jobs k ≡ Some job → IsFrom o (reading job) e → IsEnteredOn o.day (pays_in readings) e
   added_here e k job at from =
       let pay = from.0 in
       let asks : slice_get readings k ≡ Some (Ok pay) = get_mapped reading jobs k job at ∙ ap (λ (r : Result Pay NoPay). Some r) from.1 in
@@ -184,7 +184,7 @@ module _ {Job : Type 0} (o : Opening) (reading : Job → Result Pay NoPay) (jobs
           chain = chain;
           on = refl;
           opened = by;
-          order = in_order 1 (length jobs + 1) numbers (omega arith) (served.rising 0 numbers lists.1)
+          order = in_order 1 (length jobs + 1) numbers (omega arith) (served.rising refl 0 numbers lists.1)
               (λ i n at. let w = served.jobs_only 0 n (numbers, lists.1, i, at) in (w.0, omega (arith, w.1)))
               (λ n low high. every numbers lists.1 n (served.every_job n low (omega arith)));
           none = (new.each 0 q refl).known;

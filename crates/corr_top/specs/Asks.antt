@@ -11,8 +11,3 @@ asks_transfer m = Transfer (record { ref_ptr = (0, 0); now = m })
 -- a cover asks for a pay
 abbrev pub asks_cover : Mt202Cov → Ask
 asks_cover m = Cover (record { ref_ptr = (0, 0); now = m })
-
--- what is asked, whatever the place where its message is kept
-abbrev pub unplaced : Ask → Ask
-unplaced (Transfer m) = asks_transfer m.now
-unplaced (Cover m) = asks_cover m.now

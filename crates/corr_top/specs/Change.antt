@@ -1,6 +1,5 @@
 -- The commands `open-account` and `set-limits`: the accounts of a journal change.
 use Rattle.std.specs.Prelude.{◌≡◌, List, [], ◌∷◌}
-use Rattle.corr_disk.specs.declared.disk.Disk as disks
 use Rattle.ref_tables.specs.declared.fault.TableName.TheVariants as names
 use Rattle.corr_top.specs.declared.account_words.AccountChange.{AccountChange}
 use Rattle.corr_top.specs.declared.account_words.AccountChange.TheVariants.{Open, Limit}

@@ -1,7 +1,6 @@
 -- The command `check`: the verdict on each message, without a journal.
-use Rattle.std.specs.Prelude.{◌≡◌, ◌⊎◌, ℕ, List, [], ◌∷◌, codes, Result, Ok, Err}
+use Rattle.std.specs.Prelude.{◌≡◌, ℕ, List, [], ◌∷◌, codes, Result, Ok, Err}
 use Rattle.std.specs.Fmt.{decimal}
-use Rattle.corr_io.specs.declared.source.Source as sources
 use Rattle.corr_text.specs.Digits.{padded}
 use Rattle.corr_ids.specs.declared.bic.Bic.{Bic}
 use Rattle.corr_report.specs.Lines.{line, numbered}
@@ -12,16 +11,10 @@ use Rattle.fin_message.specs.Verdict.{Refused as Refusal, verdict_of}
 use Rattle.pay_plan.specs.Plan.{mir_of_envelope}
 use Rattle.ref_tables.specs.Seen.{Tables}
 use Rattle.ref_tables.specs.declared.fault.TableName.TheVariants as names
-use Rattle.corr_top.specs.declared.cutting.FileStop.{FileStop}
-use Rattle.corr_top.specs.declared.status.Status.{Status}
-use Rattle.corr_top.specs.declared.status.Status.TheVariants as status
-use Rattle.corr_top.specs.declared.writing.Texts.{Texts}
 use Rattle.corr_top.specs.Inputs.{Inputs, tables_in}
 use Rattle.corr_top.specs.Meaning.{Meaning}
-use Rattle.corr_top.specs.Passing.{HasMessages, StopsAtMessages}
 use Rattle.corr_top.specs.Reconcile.{envelope_in}
 use Rattle.corr_top.specs.Steps.{Step}
-use Rattle.corr_top.specs.Stops.{status_of_file}
 
 -- the tables of banks, currencies and countries, and the messages; the disk is left aside
 abbrev pub check_steps : List Step
@@ -62,11 +55,3 @@ check_meaning home = record {
   valid = λ i. Unit {0};
   leaves = λ D disk old new i. new ≡ old;
 }
-
--- the texts over the messages, or why there are none
-abbrev pub GivesVerdicts : {S : Type 0} → sources.Ghosts S → Bic → Tables → S → S → Result Texts Status → Type 0
-GivesVerdicts source home t old new (Ok texts) =
-    (bytes : List ℕ) × (cut : List (List ℕ)) × HasMessages source old new bytes cut × (texts.report ≡ check_lines home t cut) × (texts.out ≡ [])
-GivesVerdicts source home t old new (Err s) =
-    ((stop : FileStop) × (bytes : List ℕ) × (s ≡ status_of_file stop) × StopsAtMessages source old new bytes stop)
-    ⊎ ((bytes : List ℕ) × (cut : List (List ℕ)) × HasMessages source old new bytes cut × (s ≡ status.Memory))

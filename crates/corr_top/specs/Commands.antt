@@ -1,10 +1,10 @@
 -- The commands: which words spell them, and what each means.
-use Rattle.std.specs.Prelude.{ℕ, ◌≤◌, ◌&&◌, nat_le, List, [], ◌∷◌, Option, Some, None, codes, option_and_then, if◌then◌else◌}
+use Rattle.std.specs.Prelude.{ℕ, ◌&&◌, nat_le, List, [], ◌∷◌, Option, Some, None, codes, option_and_then, if◌then◌else◌}
 use Rattle.std.specs.Option.{option_map}
 use Rattle.std.specs.Str.{bytes_eq}
 use Rattle.corr_text.specs.Digits.{number_of}
-use Rattle.corr_ids.specs.Bic.{IsBic, bic_of}
-use Rattle.corr_ids.specs.Day.{InCentury, day_of}
+use Rattle.corr_ids.specs.Bic.{bic_of}
+use Rattle.corr_ids.specs.Day.{day_of}
 use Rattle.day_model.specs.Log.{most_entries}
 use Rattle.corr_report.specs.Generated.{most_generated}
 use Rattle.ref_tables.specs.Columns.{signed_of}
@@ -171,29 +171,6 @@ plain_in (Plain command) = Some command
 -- the words of such a command
 abbrev pub plain_of : List (List ℕ) → Option PlainCommand
 plain_of words = option_and_then plain_in (command_of words)
-
--- what the words name is in its range: days of 1980 to 2079, 1 to 16 workers, 1 to 1,024 entries, a BIC, two places, two numbers of
--- records, 1 to 50,000 messages
-
-abbrev pub IsSpelled : Command → Type 0
-IsSpelled (Run day workers entries) = InCentury day × (1 ≤ workers) × (workers ≤ most_workers) × (1 ≤ entries) × (entries ≤ most_batch)
-IsSpelled (Trial count seed workers) = (1 ≤ count) × (count ≤ most_generated) × (1 ≤ workers) × (workers ≤ most_workers)
-IsSpelled (Return place day) = (1 ≤ place) × (place ≤ most_entries) × InCentury day
-IsSpelled (Plain (Init home)) = IsBic home
-IsSpelled (Plain (Check home)) = IsBic home
-IsSpelled (Plain (Query (Send from until))) = (1 ≤ from) × (from ≤ until) × (until ≤ most_entries)
-IsSpelled (Plain (Query (Ship from until))) = (1 ≤ from) × (from ≤ until) × (until ≤ most_shipped)
-IsSpelled (Plain (Query Bookings)) = Unit {0}
-IsSpelled (Plain (Query (Balances until))) = Unit {0}
-IsSpelled (Plain (Query (Entries from until))) = Unit {0}
-IsSpelled (Plain (Query (Statements owners day))) = InCentury day
-IsSpelled (Plain Reconcile) = Unit {0}
-IsSpelled (Plain (Generate count seed)) = (1 ≤ count) × (count ≤ most_generated)
-IsSpelled (Plain (Change change)) = Unit {0}
-IsSpelled (Plain (Mend from until)) = (1 ≤ from) × (from ≤ until) × (until ≤ most_entries)
-IsSpelled (Plain Migrate) = Unit {0}
-IsSpelled (Plain Follow) = Unit {0}
-IsSpelled (Plain (Page day)) = InCentury day
 
 -- what each command means
 unfoldable pub meaning_of : Command → Meaning

@@ -48,7 +48,8 @@ IsReady source disk old new i Step.make = IsSure disk old.disk new.disk × IsMak
 IsReady source disk old new i Step.open_journal = IsSure disk old.disk new.disk × HoldsJournal disk old.disk i.chart i.history
 IsReady source disk old new i Step.day = IsLatest i.history i.day
 IsReady source disk old new i Step.messages = TellsAll source old.messages new.messages i.messages × IsMessageFile i.messages i.cut
-IsReady source disk old new i Step.book = IsSure disk old.disk new.disk × HasRoomForAll i.chart i.history (pays_of i)
+IsReady source disk old new i Step.serve =
+    (TellsAll source old.messages new.messages i.messages × IsMessageFile i.messages i.cut) × (IsSure disk old.disk new.disk × HasRoomForAll i.chart i.history (pays_of i))
 IsReady source disk old new i Step.received = TellsAll source old.received new.received i.messages × IsMessageFile i.messages i.cut
 IsReady source disk old new i Step.sent = TellsAll source old.sent new.sent i.messages × (length i.messages ≤ most_sent_bytes)
 IsReady source disk old new i Step.change = IsSure disk old.disk new.disk × MayChange i.chart i.history (row_fault i.chart (lent_in i) i.change) (what_of i)

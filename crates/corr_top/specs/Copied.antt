@@ -1,5 +1,5 @@
 -- A journal of version 1 that is carried over to a second disk: what that is, and how it stops.
-use Rattle.std.specs.Prelude.{◌≡◌, ◌⊎◌, ℕ, ◌≤◌, IfSome, IsTrue, List, [], length, Option, Some, None, Result, Ok, Err}
+use Rattle.std.specs.Prelude.{◌≡◌, ℕ, IfSome, IsTrue, List, length, Option, Some, None}
 use Rattle.corr_disk.specs.declared.disk.Disk as disks
 use Rattle.corr_disk.specs.Disk.{LeavesOnly, Only}
 use Rattle.day_model.specs.declared.entry.Entry.{Entry}
@@ -13,11 +13,7 @@ use Rattle.jrn_file.specs.declared.fault.OpenFault.{OpenFault}
 use Rattle.jrn_file.specs.Faults.{IsRefusal, MakeWithCause}
 use Rattle.jrn_file.specs.Making.{IsOther, IsUnmade, IsUnmadeOrMadeWith}
 use Rattle.jrn_file.specs.Reading.{opened_of, whole}
-use Rattle.corr_top.specs.declared.status.Status.{Status}
-use Rattle.corr_top.specs.declared.status.Status.TheVariants as status
-use Rattle.corr_top.specs.declared.writing.Texts.{Texts}
 use Rattle.corr_top.specs.OnDisk.{HasNotFailed, IsMakeable, IsOnDisk, IsUnwritten}
-use Rattle.corr_top.specs.Stops.{status_of_copying, status_of_opening}
 
 -- bytes stand for the journal of version 1 of these accounts and this history
 abbrev pub StandsForOld : List ℕ → Chart → List Entry → Type 0
@@ -69,17 +65,3 @@ module _ {D : Type 0} (d : disks.Ghosts D) where
       pub untouched : (first : ℕ) → IsTrue (d.honest old) → IsOther (d.reads old) first → IsUnwritten d old new
       pub any_moment : CopiesInTurn
       pub honest : d.honest new ≡ d.honest old
-
-    -- what making it gives: it was made, and the texts are empty; or why not
-    abbrev pub GivesCopied : Result Texts Status → Type 0
-    GivesCopied (Ok texts) = HasCopied × (texts.report ≡ []) × (texts.out ≡ [])
-    GivesCopied (Err s) = (fault : MakeFault) × (s ≡ status_of_copying (length history) fault) × StopsCopying fault
-
-  -- what carrying a journal over from one disk to a second gives: the first was read and the copy made, or not; or its opening stopped, and
-  -- the second is as it was
-  abbrev pub GivesCarried : D → D → D → D → Result Texts Status → Type 0
-  GivesCarried old new from to (Ok texts) =
-      (chart : Chart) × (history : List Entry) × HoldsOld old chart history × HasNotFailed d old new × IsUnwritten d old new × GivesCopied from to chart history (Ok texts)
-  GivesCarried old new from to (Err s) =
-      ((stop : OpenFault) × (s ≡ status_of_opening stop) × StopsOpeningOld old new stop × (to ≡ from))
-      ⊎ ((chart : Chart) × (history : List Entry) × HoldsOld old chart history × HasNotFailed d old new × IsUnwritten d old new × GivesCopied from to chart history (Err s))

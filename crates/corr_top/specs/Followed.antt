@@ -1,5 +1,5 @@
 -- Packets that are taken into a second machine's journal: what they are in a file, what that leaves, and how it stops.
-use Rattle.std.specs.Prelude.{◌≡◌, ◌≢◌, ◌⊎◌, ◌<◌, ◌≤◌, ◌^◌, ◌+◌, ◌-◌, ℕ, All, IfSome, IsTrue, None, Some, List, [], ◌++◌, codes, false, length, map, slice_get, take, Result, Ok, Err}
+use Rattle.std.specs.Prelude.{◌≡◌, ◌≢◌, ◌⊎◌, ◌<◌, ◌≤◌, ◌^◌, ◌+◌, ◌-◌, ℕ, All, IfSome, IsTrue, None, Some, List, [], ◌++◌, codes, false, length, map, slice_get, take, Err}
 use Rattle.corr_disk.specs.declared.disk.Disk as disks
 use Rattle.corr_disk.specs.Disk.{LeavesOnly}
 use Rattle.corr_io.specs.declared.source.Source as sources
@@ -18,13 +18,11 @@ use Rattle.standby.specs.Taking.{HasRoom, TakeShows, is_disk_fault}
 use Rattle.corr_top.specs.declared.cutting.FileStop.{FileStop}
 use Rattle.corr_top.specs.declared.cutting.FileStop.TheVariants as file
 use Rattle.corr_top.specs.declared.status.Status.{Status}
-use Rattle.corr_top.specs.declared.status.Status.TheVariants as status
-use Rattle.corr_top.specs.declared.writing.Texts.{Texts}
 use Rattle.corr_top.specs.MessageFile.{most_message_bytes}
 use Rattle.corr_top.specs.OnDisk.{HasNotFailed, IsUnwritten}
 use Rattle.corr_top.specs.Reading.{Failed, Took}
 use Rattle.corr_top.specs.Ship.{joined_all}
-use Rattle.corr_top.specs.Stops.{status_of_file, status_of_taking}
+use Rattle.corr_top.specs.Stops.{status_of_taking}
 
 -- ---- packets in a file
 
@@ -152,23 +150,7 @@ module _ {D : Type 0} (d : disks.Ghosts D) where
     pub entries_are : entries ≡ length (entries_of after)
     pub any_moment : TakesInTurn old new held packets
 
-  -- what taking them gives
-  abbrev pub GivesTaken : D → D → Held → List Packet → Result (Unit {0}) (TakeFault × ℕ) → Type 0
-  GivesTaken old new held packets (Ok done) = HasTaken old new held packets
-  GivesTaken old new held packets (Err stop) = StopsTaking old new held packets stop.0 stop.1
-
   -- how a command stops there
   abbrev pub StopsAtTake : D → D → Held → List Packet → Status → Type 0
   StopsAtTake old new held packets s =
       (stop : TakeFault) × (entries : ℕ) × (s ≡ status_of_taking entries stop) × StopsTaking old new held packets stop entries
-
--- what the part of the command after the beginning of the follower gives: the texts, of packets that were read and taken; or the file isn't
--- packets, and nothing was written; or one wasn't taken; or memory ran out behind the last one
-module _ {S D : Type 0} (source : sources.Ghosts S) (d : disks.Ghosts D) (from to : S) (old new : D) (held : Held) where
-  abbrev pub GivesFollowed : Result Texts Status → Type 0
-  GivesFollowed (Ok texts) =
-      (bytes : List ℕ) × (packets : List Packet) × HasPackets source from to bytes packets × HasTaken d old new held packets × (texts.report ≡ followed held packets) × (texts.out ≡ [])
-  GivesFollowed (Err s) =
-      ((stop : FileStop) × (bytes : List ℕ) × (s ≡ status_of_file stop) × StopsAtPackets source from to bytes stop × HasNotFailed d old new × IsUnwritten d old new)
-      ⊎ ((bytes : List ℕ) × (packets : List Packet) × HasPackets source from to bytes packets
-      × (StopsAtTake d old new held packets s ⊎ (HasTaken d old new held packets × (s ≡ status.Memory))))

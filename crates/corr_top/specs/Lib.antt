@@ -1,11 +1,9 @@
 pub mod Reading
 pub mod MessageFile
-pub mod Feeding
 pub mod Status
 pub mod Stops
 pub mod Asks
 pub mod Message
-pub mod Replies
 pub mod Out
 pub mod Steps
 pub mod Inputs
@@ -18,7 +16,6 @@ pub mod Followed
 pub mod Returned
 pub mod Passing
 pub mod Meaning
-pub mod Tables
 pub mod Writing
 pub mod Init
 pub mod Run
@@ -37,13 +34,9 @@ pub mod Generate
 pub mod Samples
 pub mod Trial
 pub mod Origin
-pub mod Serving
-pub mod Batching
-pub mod Collecting
-pub mod Days
-pub mod Returning
 pub mod Commands
 pub mod Ends
+pub mod promises
 pub mod Promise
 pub mod Complete
-pub mod Workers
+pub mod inner

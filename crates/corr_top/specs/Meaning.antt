@@ -22,7 +22,7 @@ pub record Meaning : Type 1 where
 -- a source that none of these steps reads is as it was, and so is the second disk where none makes a copy
 pub record KeepsRest {S K D : Type 0} (steps : List Step) (old new : Room S K D) : Type 0 where
   pub tables : (name : TableName) → (Contains steps (Step.table name) → ⊥) → table_at name new.tables ≡ table_at name old.tables
-  pub messages : (Contains steps Step.messages → ⊥) → new.messages ≡ old.messages
+  pub messages : (Contains steps Step.messages → ⊥) → (Contains steps Step.serve → ⊥) → new.messages ≡ old.messages
   pub received : (Contains steps Step.received → ⊥) → (Contains steps Step.packets → ⊥) → new.received ≡ old.received
   pub sent : (Contains steps Step.sent → ⊥) → new.sent ≡ old.sent
   pub disk2 : (Contains steps Step.copy → ⊥) → new.disk2 ≡ old.disk2

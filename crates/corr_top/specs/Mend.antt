@@ -1,20 +1,12 @@
 -- The command `mend`: what the file of messages that leave should hold.
-use Rattle.std.specs.Prelude.{◌≡◌, ◌⊎◌, ℕ, List, [], ◌∷◌, take, Result, Ok, Err}
-use Rattle.corr_disk.specs.declared.disk.Disk as disks
-use Rattle.corr_io.specs.declared.source.Source as sources
+use Rattle.std.specs.Prelude.{ℕ, List, [], ◌∷◌, take}
 use Rattle.day_model.specs.declared.entry.Entry.{Entry}
 use Rattle.day_model.specs.Chart.{Chart}
 use Rattle.out_file.specs.Mended.{mended_of}
-use Rattle.corr_top.specs.declared.cutting.FileStop.{FileStop}
-use Rattle.corr_top.specs.declared.status.Status.{Status}
-use Rattle.corr_top.specs.declared.status.Status.TheVariants as status
-use Rattle.corr_top.specs.declared.writing.Texts.{Texts}
 use Rattle.corr_top.specs.Meaning.{Meaning}
 use Rattle.corr_top.specs.Out.{sent_from}
-use Rattle.corr_top.specs.Passing.{HasSent, StopsAtSent}
 use Rattle.corr_top.specs.Query.{QueryLeaves}
 use Rattle.corr_top.specs.Steps.{Step}
-use Rattle.corr_top.specs.Stops.{status_of_file}
 
 -- the journal, and the file of messages that leave
 abbrev pub mend_steps : List Step
@@ -34,14 +26,3 @@ mend_meaning from until = record {
   valid = λ i. Unit {0};
   leaves = λ D disk old new i. QueryLeaves disk old new;
 }
-
--- ---- the part of the command after the opening of the journal
-
-module _ {S : Type 0} (source : sources.Ghosts S) (chart : Chart) (entries : List Entry) (from until : ℕ) (old new : S) where
-  -- the texts over the file, or why there are none
-  abbrev pub GivesMended : Result Texts Status → Type 0
-  GivesMended (Ok texts) =
-      (bytes : List ℕ) × HasSent source old new bytes × (texts.report ≡ mended_out from until chart entries bytes) × (texts.out ≡ [])
-  GivesMended (Err s) =
-      ((stop : FileStop) × (bytes : List ℕ) × (s ≡ status_of_file stop) × StopsAtSent source old new bytes stop)
-      ⊎ ((bytes : List ℕ) × HasSent source old new bytes × (s ≡ status.Memory))

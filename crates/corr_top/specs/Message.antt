@@ -1,11 +1,10 @@
 -- What a message asks for: a pay between two accounts, less a charge if it has one, or why it gives none.
-use Rattle.std.specs.Prelude.{◌≡◌, ℕ, List, map, Option, Some, IfSome, Result, Ok, Err}
+use Rattle.std.specs.Prelude.{ℕ, List, map, Option, Some, Result, Ok, Err}
 use Rattle.std.specs.List.{filter_map}
 use Rattle.std.specs.Result.{result_ok}
 use Rattle.corr_text.specs.Codes.{code}
 use Rattle.corr_text.specs.First.{◌>>=◌}
 use Rattle.corr_text.specs.declared.fault.Code.{Code}
-use Rattle.corr_ids.specs.Bic.{IsBic}
 use Rattle.corr_ids.specs.declared.envelope.Envelope.{Envelope}
 use Rattle.day_model.specs.declared.entry.Entry.{Entry}
 use Rattle.day_model.specs.declared.pay.Pay.{Pay}
@@ -16,11 +15,7 @@ use Rattle.day_model.specs.Same.{reply_to}
 use Rattle.fin_message.specs.declared.message.Message.{Message}
 use Rattle.fin_message.specs.declared.message.Message.TheVariants as message
 use Rattle.fin_message.specs.Verdict.{Refused as Refusal, verdict_of}
-use Rattle.pay_plan.specs.declared.ask.Ask.{Ask}
-use Rattle.pay_plan.specs.declared.charging.Charged.{Charged}
-use Rattle.pay_plan.specs.Asked.{amount_in, asked_of}
-use Rattle.pay_plan.specs.Charging.{AreCharged}
-use Rattle.pay_plan.specs.Plan.{mir_of_envelope, pay_of, plan_of}
+use Rattle.pay_plan.specs.Plan.{mir_of_envelope, plan_of}
 use Rattle.corr_top.specs.declared.directory.Directory.{Directory}
 use Rattle.corr_top.specs.declared.message.NoPay.{NoPay}
 use Rattle.corr_top.specs.declared.message.NoPay.TheVariants.{Refused, Unrouted}
@@ -43,20 +38,6 @@ pay_in directory chart (message.Cover envelope text cover) = unrouted envelope (
 pay_in directory chart (message.Debit envelope advice) = unrouted envelope (Err (code "P37"))
 pay_in directory chart (message.Credit envelope advice) = unrouted envelope (Err (code "P37"))
 pay_in directory chart (message.Page envelope page) = unrouted envelope (Err (code "P37"))
-
--- what is asked has a plan, on these accounts and with this charge
-pub record IsRoutedAs (directory : Directory) (chart : Chart) (envelope : Envelope) (text : List ℕ) (ask : Ask) (charged : Charged) : Type 0 where
-  pub plan : plan_of envelope text ask directory.ssi directory.charges chart ≡ Ok (pay_of envelope text (asked_of chart.home ask) charged chart)
-  pub accounts : AreCharged chart (amount_in ask) charged
-  pub via : IfSome charged.routed.via IsBic
-
--- a valid message asks for a pay, and has a plan on these accounts and with this charge
-abbrev pub IsRouted : Directory → Chart → Message → Charged → Type 0
-IsRouted directory chart (message.Transfer envelope text transfer) charged = IsRoutedAs directory chart envelope text (asks_transfer transfer) charged
-IsRouted directory chart (message.Cover envelope text cover) charged = IsRoutedAs directory chart envelope text (asks_cover cover) charged
-IsRouted directory chart (message.Debit envelope advice) charged = ⊥
-IsRouted directory chart (message.Credit envelope advice) charged = ⊥
-IsRouted directory chart (message.Page envelope page) charged = ⊥
 
 -- the pay that a message asks for, or why it gives none
 unfoldable pub pay_asked_of : Directory → Chart → List ℕ → Result Pay NoPay

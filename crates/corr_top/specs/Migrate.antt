@@ -1,6 +1,5 @@
 -- The command `migrate`: a journal of version 1 is carried over to a second disk.
 use Rattle.std.specs.Prelude.{List, [], ◌∷◌}
-use Rattle.corr_disk.specs.declared.disk.Disk as disks
 use Rattle.corr_top.specs.Meaning.{Meaning}
 use Rattle.corr_top.specs.Query.{QueryLeaves}
 use Rattle.corr_top.specs.Steps.{Step}

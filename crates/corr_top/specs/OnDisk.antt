@@ -1,24 +1,22 @@
 -- What stands on the journal's disk, and what was done to it.
-use Rattle.std.specs.Prelude.{◌≡◌, ◌⊎◌, ℕ, IsTrue, IfSome, None, List, length}
-use Rattle.acct_locks.specs.Holdings.{LooseHand}
+use Rattle.std.specs.Prelude.{◌≡◌, ◌⊎◌, ℕ, IsTrue, IfSome, List}
 use Rattle.corr_books.specs.Moments.{StandsBetween, StandsWithMore}
 use Rattle.corr_disk.specs.declared.disk.Disk as outside
 use Rattle.corr_disk.specs.Disk.{LeavesOnly, Only}
 use Rattle.corr_text.specs.Faults.{Rose}
 use Rattle.corr_ids.specs.declared.day.Day.{Day}
 use Rattle.day_model.specs.declared.entry.Entry.{Entry}
-use Rattle.day_model.specs.Chart.{Chart, accounts_of}
+use Rattle.day_model.specs.Chart.{Chart}
 use Rattle.jrn_codec.specs.Header.{head_bytes}
 use Rattle.jrn_file.specs.Faults.{MakeCause}
-use Rattle.jrn_file.specs.File.{IsSettled, disk_of}
 use Rattle.jrn_file.specs.Making.{IsOther, IsUnmade, IsUnmadeOrMade}
 use Rattle.jrn_file.specs.Reading.{opened_of}
 use Rattle.jrn_file.specs.Untouched.{IsUntouched}
 use Rattle.jrn_file.specs.declared.fault.MakeFault.{MakeFault}
 use Rattle.jrn_file.specs.declared.fault.OpenFault.{OpenFault}
 use Rattle.jrn_book.specs.declared.answer.Failed.{Failed}
-use Rattle.jrn_book.specs.Book.{Book, IsLeftBy}
-use Rattle.jrn_book.specs.Journal.{IsJournal, StandsForBook, item_records}
+use Rattle.jrn_book.specs.Book.{IsLeftBy}
+use Rattle.jrn_book.specs.Journal.{IsJournal, StandsForBook}
 use Rattle.jrn_book.specs.Opening.{IsFound, BookOpenCause, found_by}
 
 -- a commit of this day failed, which was writing at most so many entries
@@ -66,16 +64,6 @@ module _ {D : Type 0} (d : outside.Ghosts D) where
     pub told : IsTrue (d.honest old) → IfSome (found_by fault) (IsFound (opened_of (d.reads old)))
     pub untouched : IsUnwritten old new
 
-  -- a disk's journal was opened: this book, in which no commit has failed, and its purses; nothing was written
-  pub record HasOpened (disk : D) (book : Book D) (loose : LooseHand) : Type 0 where
-    pub holds : HoldsJournal disk book.accounts book.history
-    pub whole : book.failed ≡ None
-    pub settled : IsSettled d.honest d.reads d.may_leave book.file (head_bytes book.accounts) (item_records book.accounts book.history)
-    pub table : loose.table ≡ book.table
-    pub count : length loose.purses ≡ length (accounts_of book.accounts)
-    pub untouched : IsUnwritten disk (disk_of book.file)
-    pub sure : HasNotFailed disk (disk_of book.file)
-
   -- What the entering of pays of a day left, whether it came to its end or not: this history alone, or, where a call failed, it
   -- or it and all of the legal entries of that day that one call was writing, at most so many.
   abbrev pub IsLeft : D → D → Chart → List Entry → Day → ℕ → Type 0
@@ -83,11 +71,12 @@ module _ {D : Type 0} (d : outside.Ghosts D) where
       (HasNotFailed old new × IsOnDisk new chart history) ⊎ (Rose (d.faults old) (d.faults new) × IsLeftBy (d.honest new) (d.may_leave new) chart history (up_to most day))
 
   -- What a crash at a moment of it leaves: what it might have left before; or the history at the opening and a front part of what was
-  -- entered since, in its order; or, where a call failed, the last history and the legal entries of that day that one call was writing.
-  abbrev pub IsLeftMidway : D → D → Chart → List Entry → List Entry → Day → ℕ → List ℕ → Type 0
-  IsLeftMidway old new chart first last day most image =
-      d.may_leave old image ⊎ (StandsBetween chart first last image ⊎ (Rose (d.faults old) (d.faults new) × StandsWithMore chart last day most image))
+  -- entered since, in its order; or, where a call failed, the last history and these legal entries of that day, which one call was writing.
+  abbrev pub IsLeftMidway : D → D → Chart → List Entry → List Entry → Day → ℕ → List Entry → List ℕ → Type 0
+  IsLeftMidway old new chart first last day most more image =
+      d.may_leave old image ⊎ (StandsBetween chart first last image ⊎ (Rose (d.faults old) (d.faults new) × StandsWithMore chart last day most more image))
 
-  -- so it is at each moment of the call
+  -- so it is at each moment of the call, with the same entries
   abbrev pub LeavesMidway : D → D → Chart → List Entry → List Entry → Day → ℕ → Type 0
-  LeavesMidway old new chart first last day most = IsTrue (d.honest old) → LeavesOnly d.moment d.left_since old new (IsLeftMidway old new chart first last day most)
+  LeavesMidway old new chart first last day most =
+      IsTrue (d.honest old) → (more : List Entry) × LeavesOnly d.moment d.left_since old new (IsLeftMidway old new chart first last day most more)

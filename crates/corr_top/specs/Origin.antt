@@ -4,11 +4,7 @@ use Rattle.day_model.specs.Chart.{Chart}
 use Rattle.day_model.specs.declared.entry.Entry.{Entry}
 use Rattle.ref_tables.specs.Seen.{Tables}
 use Rattle.advices.specs.Messages.{messages_of}
-use Rattle.advices.specs.Valid.{AreAccepted, IsAccepted}
-
--- what is sent of each entry from a place on is accepted under the tables under which its pay came from a message
-abbrev pub SendsAccepted : Chart → ℕ → List Entry → Type 0
-SendsAccepted chart from entries = (i : ℕ) (e : Entry) → from ≤ i + 1 → slice_get entries i ≡ Some e → AreAccepted chart e.pay (messages_of chart e (i + 1))
+use Rattle.advices.specs.Valid.{IsAccepted}
 
 -- each message that is sent of the entries from a place on passes the tests of a sent message under these tables
 abbrev pub AreSentValid : Tables → Chart → ℕ → List Entry → Type 0

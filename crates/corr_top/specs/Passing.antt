@@ -1,10 +1,12 @@
 -- What passing a step of a command means, and how it stops there.
-use Rattle.std.specs.Prelude.{ℕ, ◌≡◌, ◌≤◌, ◌<◌, List, length, Option, Some, None, pos}
+use Rattle.std.specs.Prelude.{ℕ, ◌≡◌, ◌⊎◌, ◌≤◌, ◌<◌, List, length, Option, Some, None, pos}
+use Rattle.std.specs.Io.KnownBytes.{Consumes}
 use Rattle.corr_disk.specs.declared.disk.Disk as disks
 use Rattle.corr_ids.specs.declared.day.Day.{Day}
 use Rattle.corr_io.specs.declared.source.Source as sources
 use Rattle.corr_money.specs.declared.amount.Ccy.{Ccy}
 use Rattle.corr_money.specs.Amounts.{most_decimals}
+use Rattle.fin_frame.specs.Shown.{ShowWhole}
 use Rattle.day_model.specs.declared.fault.AccountsFault.{AccountsFault}
 use Rattle.day_model.specs.declared.fault.AccountsFault.TheVariants as refused
 use Rattle.day_model.specs.Chart.{opening_sum}
@@ -25,6 +27,7 @@ use Rattle.ref_tables.specs.Refusals.{named}
 use Rattle.ref_tables.specs.Tables.{bics_fault, ccys_fault, countries_fault}
 use Rattle.ssi_versions.specs.Rows.{ssi_fault}
 use Rattle.corr_top.specs.declared.answers.BookStop.{BookStop}
+use Rattle.corr_top.specs.declared.answers.BookStop.TheVariants as booking
 use Rattle.corr_top.specs.declared.cutting.FileStop.{FileStop}
 use Rattle.corr_top.specs.declared.cutting.FileStop.TheVariants as file
 use Rattle.corr_top.specs.declared.room.Room.{Room}
@@ -95,11 +98,6 @@ StopsAtTable source old new bytes fault table.Memory = source.faults new ≡ sou
 abbrev pub Balances : Inputs → Type 0
 Balances i = (ccy : Ccy) → opening_sum ccy (accounts_in i) ≡ pos 0
 
--- the decimals that a refusal of accounts tells are at most 4
-abbrev pub TellsDecimals : AccountsFault → Type 0
-TellsDecimals (refused.Unbalanced ccy decimals sum) = decimals ≤ most_decimals
-TellsDecimals refused.Memory = Unit {0}
-
 -- a currency's openings don't; its decimals are at most 4
 abbrev pub StopsAtSums : Inputs → AccountsFault → Type 0
 StopsAtSums i (refused.Unbalanced ccy decimals sum) = TellsUnbalanced (accounts_in i) (refused.Unbalanced ccy decimals sum) × (decimals ≤ most_decimals)
@@ -118,6 +116,45 @@ StopsAtMessages source old new bytes (file.Fault then now) = Failed source.fault
 StopsAtMessages source old new bytes (file.TooLarge count messages) = Took source.left source.faults most_message_bytes old new bytes × StopsCutting bytes (file.TooLarge count messages)
 StopsAtMessages source old new bytes (file.Framing at) = Took source.left source.faults most_message_bytes old new bytes × StopsCutting bytes (file.Framing at)
 StopsAtMessages source old new bytes file.Memory = source.faults new ≡ source.faults old
+
+-- ---- the serving of its messages, while it is read
+
+-- some first bytes of what a source had were read
+abbrev pub HasRead : Option (List ℕ) → List ℕ → Type 0
+HasRead left bytes = (rest : Option (List ℕ)) × Consumes left rest bytes
+
+-- the messages that were given while the file was read: all of it, which was read; or its first ones, which the bytes that were read by
+-- then show to be whole
+abbrev pub AreGiven : {S : Type 0} → sources.Ghosts S → S → S → List (List ℕ) → Type 0
+AreGiven source old new given = (bytes : List ℕ) × (HasMessages source old new bytes given ⊎ (HasRead (source.left old) bytes × ShowWhole bytes given))
+
+-- memory ran out before the first message was served: the source didn't fail, and nothing was written
+pub record HasNotBegun {S K D : Type 0} (source : sources.Ghosts S) (disk : disks.Ghosts D) (old new : Room S K D) (s : Status) : Type 0 where
+  pub status_is : s ≡ status.Memory
+  pub kept : source.faults new.messages ≡ source.faults old.messages
+  pub sure : HasNotFailed disk old.disk new.disk
+  pub unwritten : IsUnwritten disk old.disk new.disk
+
+-- The file stopped it: its source failed, it passes a limit, it can't be cut, or memory ran out. Of the pays of the messages that were
+-- given until then some were entered, as where memory runs out; one worker entered a front part of them. The file is told, whatever became
+-- of the disk.
+pub record StopsInFile {S K D : Type 0} (source : sources.Ghosts S) (disk : disks.Ghosts D) (old new : Room S K D) (i : Inputs) (s : Status) : Type 0 where
+  pub stop : FileStop
+  pub status_is : s ≡ status_of_file stop
+  pub stops : StopsAtMessages source old.messages new.messages i.messages stop
+  pub given : AreGiven source old.messages new.messages i.cut
+  pub left : StopsBooking disk old.disk new.disk i booking.Memory
+
+-- the file was read to its end, and not each of its pays was entered
+pub record StopsInPays {S K D : Type 0} (source : sources.Ghosts S) (disk : disks.Ghosts D) (old new : Room S K D) (i : Inputs) (s : Status) : Type 0 where
+  pub stop : BookStop
+  pub status_is : s ≡ status_of_booking stop
+  pub file : HasMessages source old.messages new.messages i.messages i.cut
+  pub left : StopsBooking disk old.disk new.disk i stop
+
+-- how serving stops
+abbrev pub StopsServing : {S K D : Type 0} → sources.Ghosts S → disks.Ghosts D → Room S K D → Room S K D → Inputs → Status → Type 0
+StopsServing source disk old new i s = HasNotBegun source disk old new s ⊎ (StopsInFile source disk old new i s ⊎ StopsInPays source disk old new i s)
 
 -- ---- the file of messages that leave
 
@@ -154,7 +191,7 @@ Passes source disk old new i Step.make = IsMakeable disk old.disk
 Passes source disk old new i Step.open_journal = HoldsJournal disk old.disk i.chart i.history
 Passes source disk old new i Step.day = IsLatest i.history i.day
 Passes source disk old new i Step.messages = HasMessages source old.messages new.messages i.messages i.cut
-Passes source disk old new i Step.book = AreAnswered i
+Passes source disk old new i Step.serve = HasMessages source old.messages new.messages i.messages i.cut × AreAnswered i
 Passes source disk old new i Step.received = HasMessages source old.received new.received i.messages i.cut
 Passes source disk old new i Step.sent = HasSent source old.sent new.sent i.messages
 Passes source disk old new i Step.change = MayChange i.chart i.history (row_fault i.chart (lent_in i) i.change) (what_of i)
@@ -177,7 +214,7 @@ StopsAt source disk old new i s Step.make = (stop : MakeFault) × (s ≡ status_
 StopsAt source disk old new i s Step.open_journal = (stop : OpenFault) × (s ≡ status_of_opening stop) × StopsOpening disk old.disk new.disk stop
 StopsAt source disk old new i s Step.day = (stop : Day) × (s ≡ status_of_day stop) × IsBack i.history i.day stop × HasNotFailed disk old.disk new.disk
 StopsAt source disk old new i s Step.messages = (stop : FileStop) × (s ≡ status_of_file stop) × StopsAtMessages source old.messages new.messages i.messages stop × HasNotFailed disk old.disk new.disk
-StopsAt source disk old new i s Step.book = (stop : BookStop) × (s ≡ status_of_booking stop) × StopsBooking disk old.disk new.disk i stop
+StopsAt source disk old new i s Step.serve = StopsServing source disk old new i s
 StopsAt source disk old new i s Step.received = (stop : FileStop) × (s ≡ status_of_file stop) × StopsAtMessages source old.received new.received i.messages stop × HasNotFailed disk old.disk new.disk × IsUnwritten disk old.disk new.disk
 StopsAt source disk old new i s Step.sent = (stop : FileStop) × (s ≡ status_of_file stop) × StopsAtSent source old.sent new.sent i.messages stop × HasNotFailed disk old.disk new.disk × IsUnwritten disk old.disk new.disk
 StopsAt source disk old new i s Step.change = StopsChanging disk old.disk new.disk i.chart i.history (row_fault i.chart (lent_in i) i.change) (what_of i) s
@@ -203,7 +240,7 @@ StepIsUntouched disk old new Step.make = new.disk ≡ old.disk
 StepIsUntouched disk old new Step.open_journal = new.disk ≡ old.disk
 StepIsUntouched disk old new Step.day = Unit {0}
 StepIsUntouched disk old new Step.messages = new.messages ≡ old.messages
-StepIsUntouched disk old new Step.book = IsUnwritten disk old.disk new.disk
+StepIsUntouched disk old new Step.serve = (new.messages ≡ old.messages) × IsUnwritten disk old.disk new.disk
 StepIsUntouched disk old new Step.received = new.received ≡ old.received
 StepIsUntouched disk old new Step.sent = new.sent ≡ old.sent
 StepIsUntouched disk old new Step.change = IsUnwritten disk old.disk new.disk

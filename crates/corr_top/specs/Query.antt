@@ -1,5 +1,5 @@
 -- The commands that read the journal and print what it says.
-use Rattle.std.specs.Prelude.{◌≡◌, ◌⊎◌, ℕ, List, [], ◌∷◌, take, Result, Ok, Err}
+use Rattle.std.specs.Prelude.{ℕ, List, [], ◌∷◌, take}
 use Rattle.corr_disk.specs.declared.disk.Disk as disks
 use Rattle.corr_report.specs.Bookings.{bookings_of}
 use Rattle.day_model.specs.declared.entry.Entry.{Entry}
@@ -7,19 +7,14 @@ use Rattle.day_model.specs.Chart.{Chart}
 use Rattle.desk_rows.specs.Balances.{balance_rows}
 use Rattle.desk_rows.specs.Entries.{entry_rows}
 use Rattle.desk_rows.specs.Until.{entries_until}
-use Rattle.jrn_file.specs.declared.fault.OpenFault.{OpenFault}
 use Rattle.corr_top.specs.declared.words.Query.{Query}
 use Rattle.corr_top.specs.declared.words.Query.TheVariants as query
-use Rattle.corr_top.specs.declared.status.Status.{Status}
-use Rattle.corr_top.specs.declared.status.Status.TheVariants as status
-use Rattle.corr_top.specs.declared.writing.Texts.{Texts}
 use Rattle.corr_top.specs.Meaning.{Meaning}
-use Rattle.corr_top.specs.OnDisk.{HasNotFailed, HoldsJournal, IsUnwritten, StopsOpening}
+use Rattle.corr_top.specs.OnDisk.{HasNotFailed, IsUnwritten}
 use Rattle.corr_top.specs.Out.{sent_from}
 use Rattle.corr_top.specs.Ship.{shipped_out}
 use Rattle.corr_top.specs.Statements.{AreStatements, sent_statements}
 use Rattle.corr_top.specs.Steps.{Step}
-use Rattle.corr_top.specs.Stops.{status_of_opening}
 
 -- the journal alone
 abbrev pub query_steps : List Step
@@ -61,20 +56,6 @@ module _ {D : Type 0} (disk : disks.Ghosts D) (old new : D) where
   pub record QueryLeaves : Type 0 where
     pub sure : HasNotFailed disk old new
     pub unwritten : IsUnwritten disk old new
-
-  -- the journal was opened, and nothing was written
-  pub record WasRead (chart : Chart) (history : List Entry) : Type 0 where
-    pub holds : HoldsJournal disk old chart history
-    pub leaves : QueryLeaves
-
-  -- what asking a disk gives: the texts over its journal, or why it wasn't opened, or out of memory
-  abbrev pub GivesAsked : Query → Result Texts Status → Type 0
-  GivesAsked asked (Ok texts) =
-      (chart : Chart) × (history : List Entry) × WasRead chart history × (texts.report ≡ query_report asked chart history) × (texts.out ≡ query_out asked chart history)
-      × QuerySends asked chart history
-  GivesAsked asked (Err s) =
-      ((stop : OpenFault) × (s ≡ status_of_opening stop) × StopsOpening disk old new stop)
-      ⊎ ((chart : Chart) × (history : List Entry) × WasRead chart history × (s ≡ status.Memory))
 
 -- a query is of the journal that was read
 abbrev pub query_meaning : Query → Meaning

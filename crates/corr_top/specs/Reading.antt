@@ -2,12 +2,6 @@
 use Rattle.std.specs.Prelude.{ℕ, ◌≡◌, ◌+◌, ◌≤◌, List, length, Option}
 use Rattle.std.specs.Io.KnownBytes.{Consumes, IsAtEnd}
 use Rattle.corr_text.specs.Faults.{Rose}
-use Rattle.corr_top.specs.declared.reading.ReadStop.{ReadStop}
-use Rattle.corr_top.specs.declared.reading.ReadStop.TheVariants.{Fault, Memory}
-
--- the most bytes that one read asks for
-abbrev pub chunk_bytes : ℕ
-chunk_bytes = 65536
 
 -- these bytes were read: all that was left, or one more than the limit where more was left
 pub record IsRead (limit : ℕ) (before after : Option (List ℕ)) (bytes : List ℕ) : Type 0 where
@@ -25,8 +19,3 @@ pub record Failed {S : Type 0} (faults : S → ℕ) (old new : S) (then now : �
   pub then_is : then ≡ faults old
   pub now_is : now ≡ faults new
   pub rose : Rose then now
-
--- reading stopped: the source failed; or memory ran out, and its count is as it was
-abbrev pub IsStopped : {S : Type 0} → (S → ℕ) → S → S → ReadStop → Type 0
-IsStopped faults old new (Fault then now) = Failed faults old new then now
-IsStopped faults old new Memory = faults new ≡ faults old

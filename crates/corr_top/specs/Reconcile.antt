@@ -1,37 +1,29 @@
 -- The command `reconcile`: statements that were received, against the books.
-use Rattle.std.specs.Prelude.{◌≡◌, ◌⊎◌, ℕ, List, [], ◌∷◌, ◌++◌, map, Option, Some, None, Result, Ok, Err}
+use Rattle.std.specs.Prelude.{ℕ, List, [], ◌∷◌, ◌++◌, map, Option, Some, None, Result, Ok, Err}
 use Rattle.std.specs.List.{filter_map}
-use Rattle.corr_io.specs.declared.source.Source as sources
 use Rattle.corr_text.specs.Codes.{code}
 use Rattle.corr_ids.specs.declared.bic.Bic.{Bic}
 use Rattle.corr_ids.specs.declared.envelope.Envelope.{Envelope}
 use Rattle.corr_report.specs.Lines.{numbered}
-use Rattle.corr_report.specs.Report.{NamesPlace, reply_line}
+use Rattle.corr_report.specs.Report.{reply_line}
 use Rattle.day_model.specs.declared.entry.Entry.{Entry}
-use Rattle.day_model.specs.declared.reply.Reply.TheVariants as reply
 use Rattle.day_model.specs.Chart.{Chart}
-use Rattle.fin_contents.specs.Writing.{IsReadable}
 use Rattle.fin_message.specs.declared.message.Message.{Message}
 use Rattle.fin_message.specs.declared.message.Message.TheVariants as message
 use Rattle.fin_message.specs.Verdict.{Refused as Refusal, verdict_of}
 use Rattle.mt950.specs.declared.page.Page950.{Page950}
-use Rattle.mt950.specs.Page.{mt950_of}
 use Rattle.pay_plan.specs.Plan.{mir_of_envelope}
 use Rattle.reconcile.specs.Breaks.{breaks_of}
 use Rattle.ref_tables.specs.Seen.{Tables}
 use Rattle.ref_tables.specs.declared.fault.TableName.TheVariants as names
-use Rattle.corr_top.specs.declared.cutting.FileStop.{FileStop}
+use Rattle.corr_top.specs.declared.message.NoPay.TheVariants as no_pay
 use Rattle.corr_top.specs.declared.received.Read.{Read}
 use Rattle.corr_top.specs.declared.received.Read.TheVariants as read
-use Rattle.corr_top.specs.declared.status.Status.{Status}
-use Rattle.corr_top.specs.declared.status.Status.TheVariants as status
-use Rattle.corr_top.specs.declared.writing.Texts.{Texts}
 use Rattle.corr_top.specs.Inputs.{Inputs, tables_in}
 use Rattle.corr_top.specs.Meaning.{Meaning}
-use Rattle.corr_top.specs.Passing.{HasMessages, StopsAtMessages}
+use Rattle.corr_top.specs.Message.{reply_for}
 use Rattle.corr_top.specs.Query.{QueryLeaves}
 use Rattle.corr_top.specs.Steps.{Step}
-use Rattle.corr_top.specs.Stops.{status_of_file}
 
 -- the tables of banks, currencies and countries, the journal, and the received messages
 abbrev pub reconcile_steps : List Step
@@ -50,33 +42,28 @@ envelope_in (message.Page envelope page) = envelope
 -- what a valid message is: a page, or one that asks for nothing here, which is P37
 abbrev pub read_as : Message → Read
 read_as (message.Page envelope page) = read.Page page
-read_as other = read.Other (reply.Unrouted (mir_of_envelope (envelope_in other)) (code "P37"))
+read_as other = read.Other (no_pay.Unrouted (mir_of_envelope (envelope_in other)) (code "P37"))
 
 -- what a message is by its verdict
 abbrev pub judged_as : Result Message Refusal → Read
 judged_as (Ok valid) = read_as valid
-judged_as (Err refusal) = read.Other (reply.Refused refusal.0 refusal.1)
+judged_as (Err refusal) = read.Other (no_pay.Refused refusal.0 refusal.1)
 
 -- what a received message is
 abbrev pub read_from : Bic → Tables → List ℕ → Read
 read_from home t bs = judged_as (verdict_of home t bs)
-
--- it can be told: a page can be joined with others, since `read_mt950` gives it of some fields, and a reply names no place
-abbrev pub CanBeTold : Read → Type 0
-CanBeTold (read.Page page) = IsReadable mt950_of page
-CanBeTold (read.Other told) = (entries : List Entry) → NamesPlace entries told
 
 -- ---- all of them
 
 -- a page among what was received
 abbrev pub page_read : Read → Option Page950
 page_read (read.Page page) = Some page
-page_read (read.Other told) = None
+page_read (read.Other why) = None
 
 -- the line of the n-th message, of a page none
 abbrev pub other_line : Chart → List Entry → ℕ → Read → List ℕ
 other_line chart entries n (read.Page page) = []
-other_line chart entries n (read.Other told) = reply_line chart entries n told
+other_line chart entries n (read.Other why) = reply_line chart entries n (reply_for why)
 
 -- what the messages are
 abbrev pub all_received : Bic → Tables → List (List ℕ) → List Read
@@ -89,11 +76,6 @@ other_lines chart entries reads = numbered (other_line chart entries) 1 reads
 -- the pages, in the order of the messages
 abbrev pub pages_in : List Read → List Page950
 pages_in reads = filter_map page_read reads
-
--- the lines of the messages that are no pages were added, and these are the pages
-abbrev pub Collects : Chart → List Entry → Tables → List (List ℕ) → List ℕ → List ℕ → List Page950 → Type 0
-Collects chart entries t messages old new pages =
-    (new ≡ old ++ other_lines chart entries (all_received chart.home t messages)) × (pages ≡ pages_in (all_received chart.home t messages))
 
 -- the report: a line for each message that is no page, and what is told of the statements
 abbrev pub break_report : Chart → List Entry → Tables → List (List ℕ) → List ℕ
@@ -114,14 +96,3 @@ reconcile_meaning = record {
   valid = λ i. Unit {0};
   leaves = λ D disk old new i. QueryLeaves disk old new;
 }
-
--- ---- the part of the command after the opening of the journal
-
-module _ {S : Type 0} (source : sources.Ghosts S) (chart : Chart) (entries : List Entry) (t : Tables) (old new : S) where
-  -- the texts over the received messages, or why there are none
-  abbrev pub GivesBreaks : Result Texts Status → Type 0
-  GivesBreaks (Ok texts) =
-      (bytes : List ℕ) × (cut : List (List ℕ)) × HasMessages source old new bytes cut × (texts.report ≡ break_report chart entries t cut) × (texts.out ≡ [])
-  GivesBreaks (Err s) =
-      ((stop : FileStop) × (bytes : List ℕ) × (s ≡ status_of_file stop) × StopsAtMessages source old new bytes stop)
-      ⊎ ((bytes : List ℕ) × (cut : List (List ℕ)) × HasMessages source old new bytes cut × (s ≡ status.Memory))

@@ -12,11 +12,12 @@ use Rattle.corr_top.specs.Origin.{AreSentValid}
 use Rattle.corr_top.specs.Out.{sent_from}
 use Rattle.corr_top.specs.Steps.{Step}
 
--- the tables of banks, currencies, countries, instructions and charges, the journal, the day, the message file, and the entering of its pays
+-- the tables of banks, currencies, countries, instructions and charges, the journal, the day, and the serving of the messages of the message
+-- file while it is read
 abbrev pub run_steps : List Step
 run_steps =
     Step.table names.Bics ∷ Step.table names.Ccys ∷ Step.table names.Countries ∷ Step.table names.Ssi ∷ Step.table names.Charges
-    ∷ Step.open_journal ∷ Step.day ∷ Step.messages ∷ Step.book ∷ []
+    ∷ Step.open_journal ∷ Step.day ∷ Step.serve ∷ []
 
 -- its report: of the history that one thread makes of the journal's and the entered pays, in the order in which they were
 -- entered, and of the reply to each message

@@ -1,13 +1,8 @@
 -- The command `ship`: the records of the journal as packets.
-use Rattle.std.specs.Prelude.{◌≡◌, ℕ, All, Bool, IsTrue, List, ◌++◌, map, nat_le}
-use Rattle.std.specs.List.{flat_map, list_all}
-use Rattle.day_model.specs.declared.change.Change.{Change}
+use Rattle.std.specs.Prelude.{ℕ, List}
+use Rattle.std.specs.List.{flat_map}
 use Rattle.day_model.specs.declared.entry.Entry.{Entry}
-use Rattle.day_model.specs.Changes.{are_in_order}
 use Rattle.day_model.specs.Chart.{Chart}
-use Rattle.day_model.specs.Items.{items_from}
-use Rattle.jrn_codec.specs.Change.{IsWhat}
-use Rattle.jrn_codec.specs.Items.{item_bytes}
 use Rattle.jrn_book.specs.Journal.{all_records}
 use Rattle.standby.specs.Packets.{packets_of}
 
@@ -22,23 +17,3 @@ joined_all texts = flat_map (λ text. text) texts
 -- of the records of the journal, header first, the packets of those from one number to another that there are
 abbrev pub shipped_out : ℕ → ℕ → Chart → List Entry → List ℕ
 shipped_out from until chart history = joined_all (packets_of (all_records chart history) from until)
-
--- ---- the records, one after another
-
--- the records of the entries behind the first k, and of the changes that are left, in the order of the journal
-abbrev pub records_from : ℕ → List Change → List Entry → List (List ℕ)
-records_from k changes entries = map item_bytes (items_from k changes entries)
-
--- a change came after k entries or later
-abbrev pub is_since : ℕ → Change → Bool
-is_since k change = nat_le k change.after
-
--- changes that are left when the records of k entries are written: they are in order, none came earlier, and each has a record
-pub record AreDue (k : ℕ) (changes : List Change) : Type 0 where
-  pub order : IsTrue (are_in_order changes)
-  pub since : IsTrue (list_all (is_since k) changes)
-  pub written : All (λ change. IsWhat change.what) changes
-
--- records were added for changes that were left, and these changes no longer are: whatever entries come, all records stay the same
-abbrev pub AddsDue : ℕ → List (List ℕ) → List Change → List (List ℕ) → List Change → Type 0
-AddsDue k before changes records rest = (entries : List Entry) → records ++ records_from k rest entries ≡ before ++ records_from k changes entries

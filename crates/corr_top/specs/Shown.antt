@@ -1,5 +1,5 @@
--- What the page says of each message: what a run would answer to it over the journal as it is.
-use Rattle.std.specs.Prelude.{◌≡◌, ℕ, List, map, Some, None, Result, Ok, Err}
+-- What the page says of each message: its verdict, its route and the entry under its reference; of a payment that isn't entered, that alone.
+use Rattle.std.specs.Prelude.{ℕ, List, map, Some, None, Result, Ok, Err}
 use Rattle.corr_ids.specs.declared.envelope.Envelope.{Envelope}
 use Rattle.day_model.specs.Chart.{Chart}
 use Rattle.day_model.specs.declared.entry.Entry.{Entry}
@@ -41,7 +41,7 @@ cover_shown envelope m = record {
   payee = party_text m.a58;
 }
 
--- where the payment of a valid message stands after these entries, by the reply to it
+-- where the payment of a valid message stands after these entries, by its plan and the entry under its reference
 abbrev pub standing_in : Directory → Chart → List Entry → Message → Standing
 standing_in directory chart entries valid = standing_by entries (message_reply entries (pay_in directory chart valid))
 

@@ -1,18 +1,14 @@
 -- The commands `statements` and `customer-statements`: what the owners of accounts are sent of a day.
-use Rattle.std.specs.Prelude.{◌≡◌, ℕ, ◌+◌, ◌==◌, ◌++◌, Bool, true, List, [], Some, slice_get, if◌then◌else◌}
-use Rattle.corr_ids.specs.Bic.{IsBic}
-use Rattle.corr_ids.specs.Day.{InCentury}
+use Rattle.std.specs.Prelude.{◌≡◌, ℕ, ◌+◌, ◌==◌, Bool, true, List, [], Some, slice_get, if◌then◌else◌}
 use Rattle.corr_ids.specs.declared.day.Day.{Day}
 use Rattle.corr_report.specs.Lines.{numbered}
-use Rattle.day_model.specs.Chart.{Chart, account_at, accounts_of, customer, vostro}
+use Rattle.day_model.specs.Chart.{Chart, accounts_of, customer, vostro}
 use Rattle.day_model.specs.declared.account.Account.{Account}
 use Rattle.day_model.specs.declared.entry.Entry.{Entry}
 use Rattle.mt940_out.specs.Pages.{customer_pages_of}
 use Rattle.mt940_out.specs.Valid.{PagesReadBack}
-use Rattle.statement.specs.Index.{IsIndexOf}
 use Rattle.statement.specs.Pages.{pages_of}
-use Rattle.statement.specs.Valid.{PagesAreAccepted, AreShaped, ClosesAtBalance}
-use Rattle.statement.specs.declared.index.HistoryIndex.{HistoryIndex}
+use Rattle.statement.specs.Valid.{PagesAreAccepted, ClosesAtBalance}
 use Rattle.corr_top.specs.declared.owners.Owners.{Owners}
 use Rattle.corr_top.specs.declared.owners.Owners.TheVariants.{Banks, Customers}
 use Rattle.corr_top.specs.Out.{parted_all}
@@ -54,15 +50,3 @@ pub record IsStatementOfDay (owners : Owners) (chart : Chart) (entries : List En
 abbrev pub AreStatements : Owners → Chart → List Entry → Day → Type 0
 AreStatements owners chart entries day =
     (i : ℕ) (account : Account) → slice_get (accounts_of chart) i ≡ Some account → is_theirs owners account ≡ true → IsStatementOfDay owners chart entries day (i + 1)
-
--- an index is that of these entries, whose statements of a day can be printed
-pub record MayPrint (index : HistoryIndex) (chart : Chart) (day : Day) (entries : List Entry) : Type 0 where
-  pub is : IsIndexOf index (record { chart = chart; entries = entries })
-  pub shaped : AreShaped entries
-  pub home : IsBic chart.home
-  pub century : InCentury day
-
--- what is sent of account n is added to what was there, and is its statement
-pub record Adds (owners : Owners) (chart : Chart) (entries : List Entry) (day : Day) (n : ℕ) (old new : List ℕ) : Type 0 where
-  pub text : (account : Account) → account_at chart n ≡ Some account → new ≡ old ++ pages_sent owners chart entries day n account
-  pub valid : (account : Account) → account_at chart n ≡ Some account → is_theirs owners account ≡ true → IsStatementOfDay owners chart entries day n

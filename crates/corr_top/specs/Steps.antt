@@ -3,7 +3,7 @@ use Rattle.std.specs.Prelude.{◌⊎◌, List, [], ◌∷◌}
 use Rattle.ref_tables.specs.declared.fault.TableName.{TableName}
 
 -- What a command reads, tests and does before it writes: a table, the sums of the openings, the making of a journal, the journal
--- as it is opened, the day against that of its last entry, the message file, the entering of its pays, and the received messages;
+-- as it is opened, the day against that of its last entry, the message file, the serving of its messages while it is read, and the received messages;
 -- the file of messages that leave; a change of the journal's accounts; the second disk, a journal of version 1 as it is opened, and the
 -- making of its copy; the making of the pay that takes a payment back, and its entering; that a disk which a command doesn't need is left
 -- aside; and what a follower's disk holds, the packets of the received file, and the taking of these.
@@ -14,7 +14,7 @@ pub data Step : Type 0 where
   open_journal : Step
   day : Step
   messages : Step
-  book : Step
+  serve : Step
   received : Step
   sent : Step
   change : Step

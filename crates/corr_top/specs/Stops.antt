@@ -7,8 +7,6 @@ use Rattle.day_model.specs.declared.change.What.{What}
 use Rattle.day_model.specs.declared.change.What.TheVariants.{Opened, Limits}
 use Rattle.day_model.specs.declared.fault.AccountsFault.{AccountsFault}
 use Rattle.day_model.specs.declared.fault.AccountsFault.TheVariants as accounts
-use Rattle.fin_frame.specs.declared.fault.FrameFault.{FrameFault}
-use Rattle.fin_frame.specs.declared.fault.FrameFault.TheVariants as frame
 use Rattle.jrn_book.specs.declared.changing.ChangeFault.{ChangeFault}
 use Rattle.jrn_book.specs.declared.changing.ChangeFault.TheVariants as changing
 use Rattle.jrn_file.specs.declared.fault.MakeFault.{MakeFault}
@@ -17,8 +15,6 @@ use Rattle.jrn_file.specs.declared.fault.OpenFault.{OpenFault}
 use Rattle.jrn_file.specs.declared.fault.OpenFault.TheVariants as opening
 use Rattle.pay_returns.specs.declared.fault.ReturnFault.{ReturnFault}
 use Rattle.pay_returns.specs.declared.fault.ReturnFault.TheVariants as returning
-use Rattle.ref_tables.specs.declared.fault.TableFault.{TableFault}
-use Rattle.ref_tables.specs.declared.fault.TableFault.TheVariants as refused
 use Rattle.ref_tables.specs.declared.fault.TableName.TheVariants as names
 use Rattle.ref_tables.specs.declared.fault.Why.TheVariants as why
 use Rattle.standby.specs.declared.answer.TakeFault.{TakeFault}
@@ -27,34 +23,10 @@ use Rattle.corr_top.specs.declared.answers.BookStop.{BookStop}
 use Rattle.corr_top.specs.declared.answers.BookStop.TheVariants as booking
 use Rattle.corr_top.specs.declared.cutting.FileStop.{FileStop}
 use Rattle.corr_top.specs.declared.cutting.FileStop.TheVariants as file
-use Rattle.corr_top.specs.declared.reading.ReadStop.{ReadStop}
-use Rattle.corr_top.specs.declared.reading.ReadStop.TheVariants as reading
 use Rattle.corr_top.specs.declared.status.Status.{Status}
 use Rattle.corr_top.specs.declared.status.Status.TheVariants as status
 use Rattle.corr_top.specs.declared.tables.TableStop.{TableStop}
 use Rattle.corr_top.specs.declared.tables.TableStop.TheVariants as table
-
--- a table was not read, or was refused
-abbrev pub table_stop_of_read : ReadStop → TableStop
-table_stop_of_read (reading.Fault before after) = table.Fault before after
-table_stop_of_read reading.Memory = table.Memory
-
--- a table was read, and is refused by its bad row
-abbrev pub table_stop_of_fault : TableFault → TableStop
-table_stop_of_fault (refused.Bad name row why) = table.Bad name row why
-table_stop_of_fault refused.Memory = table.Memory
-
--- the message file was not read, or can't be cut
-abbrev pub file_stop_of_read : ReadStop → FileStop
-file_stop_of_read (reading.Fault before after) = file.Fault before after
-file_stop_of_read reading.Memory = file.Memory
-
--- the message file can't be cut: of each fault the place alone is told
-abbrev pub file_stop_of_frame : FrameFault → FileStop
-file_stop_of_frame (frame.Stray at) = file.Framing at
-file_stop_of_frame (frame.TooLong at) = file.Framing at
-file_stop_of_frame (frame.Unbalanced at) = file.Framing at
-file_stop_of_frame frame.Memory = file.Memory
 
 -- the status where a table couldn't be read, or is refused
 abbrev pub status_of_table : TableStop → Status
@@ -103,11 +75,6 @@ abbrev pub status_of_booking : BookStop → Status
 status_of_booking (booking.DiskFault before after) = status.DiskFault before after
 status_of_booking (booking.Full entries end need) = status.Full entries end need
 status_of_booking booking.Memory = status.Memory
-
--- the status where the row that words say is refused, which is row 1
-abbrev pub status_of_row : TableFault → Status
-status_of_row (refused.Bad name row reason) = status.Table names.Accounts 1 reason
-status_of_row refused.Memory = status.Memory
 
 -- the row that a refused change tells: 1 of an account that is opened, else the number of the account
 abbrev pub row_named : What → ℕ

@@ -1,9 +1,6 @@
 -- What was written to sinks.
 use Rattle.std.specs.Prelude.{ℕ, ◌≡◌, ◌≢◌, ◌⊎◌, List, [], take, Option}
 use Rattle.std.specs.Io.KnownBytes.{Appends}
-use Rattle.corr_io.specs.declared.sink.Sink as sinks
-use Rattle.corr_top.specs.declared.status.Status.{Status}
-use Rattle.corr_top.specs.declared.status.Status.TheVariants as status
 use Rattle.corr_top.specs.Reading.{Failed}
 
 -- some front part of a text was appended
@@ -26,9 +23,3 @@ pub record FailedAt {K : Type 0} (held : K → Option (List ℕ)) (faults : K �
 abbrev pub FailsWriting : {K : Type 0} → (K → Option (List ℕ)) → (K → ℕ) → K → K → List ℕ → K → K → List ℕ → ℕ → ℕ → Type 0
 FailsWriting held faults old new report sink sunk out then now =
     (FailedAt held faults old new report then now × (sunk ≡ sink)) ⊎ (Received held faults old new report × FailedAt held faults sink sunk out then now)
-
--- both texts were received whole, and the status is Done; or a sink failed, and it is WriteFault
-abbrev pub IsWritten : {K : Type 0} → sinks.Ghosts K → K → K → List ℕ → K → K → List ℕ → Status → Type 0
-IsWritten sink old new report from to out s =
-    ((s ≡ status.Done) × Received sink.held sink.faults old new report × Received sink.held sink.faults from to out)
-    ⊎ ((then : ℕ) × (now : ℕ) × (s ≡ status.WriteFault then now) × FailsWriting sink.held sink.faults old new report from to out then now)

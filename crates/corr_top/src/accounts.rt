@@ -6,8 +6,8 @@ ghost use Rattle.day_model.specs.Chart.{opening_sum};
 ghost use Rattle.day_model.specs.Gap.{TellsUnbalanced};
 ghost use Rattle.ref_tables.specs.AccountList.{AreAccounts};
 ghost use Rattle.corr_top.specs.Inputs.{opened};
-ghost use Rattle.corr_top.specs.Tables.{HasAccounts, StopsAccounts};
-ghost use Rattle.corr_top.specs.Passing.{TellsDecimals};
+ghost use Rattle.corr_top.specs.inner.Tables.{HasAccounts, StopsAccounts};
+ghost use Rattle.corr_top.specs.inner.Passing.{TellsDecimals};
 
 use crate::room::Tables;
 use crate::status::Status;

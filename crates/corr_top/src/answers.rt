@@ -2,8 +2,8 @@
 
 ghost use Rattle.std.specs.Prelude.{◌≡◌, List, IfErr, IfOk, IsFalse, IsTrue, Some, if◌then◌else◌, is_none};
 ghost use Rattle.corr_text.specs.Faults.{Rose};
-ghost use Rattle.corr_top.specs.Collecting.{IsCalm, StopsAsServed};
-ghost use Rattle.corr_top.specs.Serving.{SaysFailed, are_replies};
+ghost use Rattle.corr_top.specs.inner.Collecting.{IsCalm, StopsAsServed};
+ghost use Rattle.corr_top.specs.inner.Serving.{SaysFailed, are_replies};
 ghost use Rattle.day_model.specs.declared.reply.Reply.{Reply as TheReply};
 
 use crate::desk::{Halt, Served};

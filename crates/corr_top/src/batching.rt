@@ -1,57 +1,130 @@
 //! Batches of messages: what a worker answers together, and what it makes of them.
 
-ghost use Rattle.std.specs.Prelude.{◌≡◌, ◌+◌, ◌-◌, ◌≤◌, ◌++◌, [], IfOk, drop, length, map, take, vec_capacity};
+ghost use Rattle.std.specs.Prelude.{◌≡◌, ◌+◌, ◌-◌, ◌<◌, ◌≤◌, ◌++◌, [], ◌∷◌, All, IfErr, IfOk, OnOk, drop, get_or, length, map, take, vec_capacity};
+ghost use Rattle.fin_frame.specs.File.{most_bytes};
+ghost use Rattle.fin_frame.specs.Pieces.{IsPlaceIn, at_places};
 ghost use Rattle.jrn_book.specs.Batches.{most_batch};
-ghost use Rattle.corr_top.specs.Batching.{IsBatch, all_made, ask_of, halt_after, halted_by, made_by, messages_in, stopped_so, why_of};
+ghost use Rattle.corr_top.specs.inner.Batching.{AreInText, IsBatch, IsShort, all_made, ask_of, halt_after, halted_by, made_by, made_in, messages_in, stopped_so, why_of};
 ghost use Rattle.corr_top.specs.Message.{pays_in};
 
 use crate::desk::{Halt, Served, as_served, halt_of};
 use crate::message::{NoPay, reply_for};
 use corr_books::BooksName;
 use corr_ids::Mir;
-use corr_text::Memory;
+use corr_text::{Memory, Text};
 use day_model::{Pay, Reply};
-use fin_frame::Framed;
+use fin_frame::{Framed, Place};
 use jrn_book::{CommitFault, Committed};
 use std::alloc::Global;
 use std::marker::{Model, PhantomData};
 
-/// Messages that a worker answers together: one at least, and no more than entries come under one sync by the name of the books.
+/// Messages that a worker answers together, in a text of their own: one at least, and no more than entries come under one sync by the
+/// name of the books.
 #[derive(Drop)]
-pub struct Batch<'a, N: BooksName> {
-    messages: &'a [Framed<'a>],
+pub struct Batch<N: BooksName> {
+    text: Text,
+    places: Vec<Place>,
     of: PhantomData<N>,
 }
 
-impl<'a, N: BooksName> Model for Batch<'a, N> {
+impl<N: BooksName> Model for Batch<N> {
     ghost use Rattle.std.specs.Prelude.{List, ℕ};
-    ghost use Rattle.corr_top.specs.Batching.{IsBatch};
+    ghost use Rattle.fin_frame.specs.Pieces.{at_places};
+    ghost use Rattle.corr_top.specs.inner.Batching.{AreInText, IsBatch};
 
     ghost Value = { List (List ℕ) };
 
-    ghost view = { λ batch. batch.messages.now };
+    ghost view = { λ batch. at_places batch.text batch.places.items };
 
-    ghost invariant = { λ batch. IsBatch N.opening.most batch.messages.now };
+    ghost invariant = { λ batch. AreInText batch.text batch.places.items × IsBatch N.opening.most (at_places batch.text batch.places.items) };
 }
 
-impl<'a, N: BooksName> Batch<'a, N> {
-    fn new(messages: &'a [Framed<'a>]) -> Batch<'a, N>
-        requires { IsBatch N.opening.most messages.now }
-        ensures { result ≡ messages.now }
+impl<N: BooksName> Batch<N> {
+    fn new(text: Text, places: Vec<Place>) -> Batch<N>
+        requires within { AreInText text places.items }
+        requires batch { IsBatch N.opening.most (at_places text places.items) }
+        ensures { result ≡ at_places text places.items }
     {
         Batch {
-            messages,
+            text,
+            places,
             of: PhantomData,
         }
     }
 
-    /// The messages, in their order.
-    pub fn messages(&self) -> &'a [Framed<'a>]
-        ensures messages { result.now ≡ self.now }
+    /// How many messages it has.
+    pub fn len(&self) -> usize
+        ensures count { result ≡ length self.now }
         ensures batch { IsBatch N.opening.most self.now }
     {
-        self.messages
+        self.places.len()
     }
+
+    /// One of its messages, by its place among them, from 0.
+    pub fn message(&self, at: usize) -> &[u8]
+        requires { at < length self.now }
+        ensures bytes { result.now ≡ get_or self.now at [] }
+        ensures short { length result.now ≤ most_bytes }
+    {
+        self.places[at].of(self.text.bytes())
+    }
+}
+
+/// Puts a message behind others in a text.
+fn put_message(text: &mut Text, places: &mut Vec<Place>, message: &[u8]) -> Result<(), Memory>
+    requires within { AreInText text.old places.old.items }
+    requires few { length places.old.items < most_batch }
+    requires short { length message.now ≤ most_bytes }
+    requires room { length places.old.items < vec_capacity places.old }
+    ensures put { OnOk result (at_places text.new places.new.items ≡ at_places text.old places.old.items ++ message.now ∷ []) }
+    ensures within { OnOk result (AreInText text.new places.new.items) }
+    ensures count { OnOk result (length places.new.items ≡ length places.old.items + 1) }
+    ensures capacity { vec_capacity places.new ≡ vec_capacity places.old }
+{
+    let from = text.bytes().len() as u32;
+    text.push(message)?;
+    places.push_reserved(Place {
+        from,
+        len: message.len() as u32,
+    });
+    Ok(())
+}
+
+/// About how many bytes the messages at these places have. No clause speaks of it.
+fn bytes_in(places: &[Place]) -> usize {
+    let mut bytes = 0usize;
+    for place in places {
+        bytes = bytes.saturating_add(place.len as usize);
+    }
+    bytes
+}
+
+/// The messages at these places of a file's bytes, as a batch.
+pub fn batch_at<N: BooksName>(alloc: Global, file: &[u8], at: &[Place]) -> Result<Batch<N>, Memory>
+    requires within { All (IsPlaceIn (length file.now)) at.now }
+    requires short { All IsShort (at_places file.now at.now) }
+    requires batch { IsBatch N.opening.most (at_places file.now at.now) }
+    ensures { IfOk result (λ batch. batch ≡ at_places file.now at.now) }
+{
+    let mut text = Text::with_room(alloc, &[], bytes_in(at))?;
+    let mut places = Vec::with_capacity(alloc, at.len())?;
+    for place in at {
+        put_message(&mut text, &mut places, place.of(file))?;
+    }
+    Ok(Batch::new(text, places))
+}
+
+/// These messages, as a batch.
+fn batch_of<N: BooksName>(alloc: Global, messages: &[Framed<'_>]) -> Result<Batch<N>, Memory>
+    requires batch { IsBatch N.opening.most messages.now }
+    ensures { IfOk result (λ batch. batch ≡ messages.now) }
+{
+    let mut text = Text::from_bytes(alloc, &[])?;
+    let mut places = Vec::with_capacity(alloc, messages.len())?;
+    for message in messages {
+        put_message(&mut text, &mut places, message.bytes())?;
+    }
+    Ok(Batch::new(text, places))
 }
 
 /// What became of the messages of a batch.
@@ -101,13 +174,14 @@ pub fn make_lists(alloc: Global, count: usize) -> Result<Lists, Memory>
     })
 }
 
-/// The most messages of a batch. Some workers share the messages of a file, so that each has two batches and more; few messages
-/// are dealt one by one. No clause speaks of it.
+/// The most messages of a batch: of one worker as many as may be (`alone`). Several workers share the messages of a file, so that each
+/// has two batches and more; few messages are dealt one by one. No clause speaks of how they share them.
 pub fn share_of(count: usize, workers: u32, entries: u32) -> usize
     requires workers { 1 ≤ workers }
     requires entries { 1 ≤ entries }
     ensures some { 1 ≤ result }
     ensures few { result ≤ entries }
+    ensures alone { workers ≡ 1 → result ≡ entries }
 {
     let entries = entries as usize;
     if workers == 1 {
@@ -128,7 +202,7 @@ pub fn share_of(count: usize, workers: u32, entries: u32) -> usize
 }
 
 /// How many messages the next batch has, where so many are left.
-fn next_count(left: usize, share: usize) -> usize
+pub fn next_count(left: usize, share: usize) -> usize
     requires left { 1 ≤ left }
     requires share { 1 ≤ share }
     ensures some { 1 ≤ result }
@@ -148,11 +222,11 @@ fn next_front<'a>(messages: &'a [Framed<'a>], at: usize, count: usize) -> &'a [F
 
 /// The messages in batches of so many; the last may have fewer.
 #[tactic(auto, using(crate::proofs::Batched::dealt, crate::proofs::Batched::all_dealt))]
-pub fn share_out<'a, N: BooksName>(
+pub fn share_out<N: BooksName>(
     alloc: Global,
-    messages: &'a [Framed<'a>],
+    messages: &[Framed<'_>],
     share: usize,
-) -> Result<Vec<Batch<'a, N>>, Memory>
+) -> Result<Vec<Batch<N>>, Memory>
     requires some { 1 ≤ share }
     requires few { (share ≤ most_batch) × (share ≤ N.opening.most) }
     ensures { IfOk result (λ batches. messages_in batches.items ≡ messages.now) }
@@ -162,7 +236,7 @@ pub fn share_out<'a, N: BooksName>(
     while at < messages.len() {
         let count = next_count(messages.len() - at, share);
         let front = next_front(messages, at, count);
-        batches.push(Batch::new(front))?;
+        batches.push(batch_of(alloc, front)?)?;
         at += count;
     }
     Ok(batches)
@@ -275,4 +349,34 @@ pub fn put_all(replies: Vec<Made>, served: &mut Vec<Served>)
             Made::None { messages, why } => put_stopped(served, messages, why),
         }
     }
+}
+
+// Puts what became of the messages of a batch behind what became of others.
+fn put_one(made: Made, served: &mut Vec<Served>) -> Result<(), Memory>
+    ensures { OnOk result (served.new.items ≡ served.old.items ++ made_in made) }
+{
+    match made {
+        Made::One(one) => served.push(one)?,
+        Made::Each(each) => {
+            served.reserve(each.len())?;
+            put_list(each, served);
+        }
+        Made::None { messages, why } => {
+            served.reserve(messages)?;
+            put_stopped(served, messages, why);
+        }
+    }
+    Ok(())
+}
+
+/// What became of each message of batches that a feed gave, in their order.
+pub fn join_made(alloc: Global, replies: Result<Vec<Made>, Memory>) -> Result<Vec<Served>, Memory>
+    ensures made { IfOk replies (λ made. IfOk result (λ served. served.items ≡ all_made made.items)) }
+    ensures ok { IfOk result (λ _. IfErr replies (λ _. ⊥)) }
+{
+    let mut served = Vec::new(alloc);
+    for made in replies? {
+        put_one(made, &mut served)?;
+    }
+    Ok(served)
 }

@@ -1,9 +1,11 @@
 //! The top calls: the words of a command, and what it is handed.
 
 ghost use Rattle.std.specs.Prelude.{◌≡◌, ◌⊎◌, None, IfSome};
-ghost use Rattle.corr_top.specs.Commands.{IsSpelled, command_of, meaning_of, plain_of};
+ghost use Rattle.corr_top.specs.Commands.{command_of, meaning_of, plain_of};
+ghost use Rattle.corr_top.specs.inner.Commands.{IsSpelled};
 ghost use Rattle.corr_top.specs.Complete.{IsFaultless};
-ghost use Rattle.corr_top.specs.Ends.{Ends, HasTexts};
+ghost use Rattle.corr_top.specs.Ends.{Ends};
+ghost use Rattle.corr_top.specs.inner.Ends.{HasTexts};
 ghost use Rattle.corr_top.specs.Inputs.{Inputs};
 ghost use Rattle.corr_top.specs.Promise.{Promises};
 ghost use Rattle.corr_top.specs.Status.{HasLine};
@@ -174,13 +176,13 @@ pub fn plain<S: Source, K: Sink, D: Disk>(
 ///
 /// Other words are `Usage`. To the report and to `out` nothing is written but at `Done`, and a front part of both together at
 /// `WriteFault`; what was entered stands in the journal at each status.
-pub fn corr<R: Wait + Threads + Sync, S: Source, K: Sink, D: Disk + Drop + Send, G: Gate + Sync>(
-    rt: &R,
-    alloc: Global,
-    words: &[Text],
-    room: Room<S, K, D>,
-    gate: &G,
-) -> Done<S, K, D>
+pub fn corr<
+    R: Wait + Threads + Sync,
+    S: Source + Drop,
+    K: Sink,
+    D: Disk + Drop + Send,
+    G: Gate + Sync,
+>(rt: &R, alloc: Global, words: &[Text], room: Room<S, K, D>, gate: &G) -> Done<S, K, D>
     // words of no command touch nothing
     ensures usage { command_of words.now ≡ None → (result.status ≡ Status.Usage) × (result.room ≡ room) }
     // what a bank may rely on

@@ -2,8 +2,8 @@
 
 ghost use Rattle.std.specs.Prelude.{◌≡◌, ◌+◌, ◌≤◌, ◌<◌, ◌^◌, ℕ, List, ◌++◌, None, IfOk, IfErr, IfSome, OnOk, length};
 ghost use Rattle.std.specs.List.{position};
-ghost use Rattle.fin_frame.specs.Shown.{HasNoColon, is_colon};
-ghost use Rattle.corr_top.specs.Feeding.{HasPassed, StopsFeeding};
+ghost use Rattle.fin_frame.specs.inner.Shown.{HasNoColon, is_colon};
+ghost use Rattle.corr_top.specs.inner.Feeding.{HasPassed, StopsFeeding};
 ghost use Rattle.corr_top.specs.MessageFile.{IsMessageFile, StopsCutting, most_message_bytes, most_messages};
 ghost use Rattle.corr_top.specs.Passing.{StopsAtMessages};
 ghost use Rattle.corr_top.specs.Reading.{Took};
@@ -15,11 +15,11 @@ use corr_text::{List, Memory, Text};
 use fin_frame::{Cutter, FrameFault, Framed, cut_whole};
 use std::alloc::Global;
 
-/// The most bytes of a message file: 64 MiB.
-const FILE_LIMIT: usize = 67_108_864;
+/// The most bytes of a file of messages or of packets: 64 MiB.
+pub(crate) const FILE_LIMIT: usize = 67_108_864;
 
 /// The most messages of a message file.
-const MESSAGE_LIMIT: u32 = 50_000;
+pub(crate) const MESSAGE_LIMIT: u32 = 50_000;
 
 /// Why a message file was not taken.
 #[derive(Clone, Copy)]
@@ -35,7 +35,7 @@ pub enum FileStop {
 }
 
 impl From<FrameFault> for FileStop {
-    ghost use Rattle.corr_top.specs.Stops.{file_stop_of_frame};
+    ghost use Rattle.corr_top.specs.inner.Stops.{file_stop_of_frame};
 
     ghost from_gives = { λ fault stop. stop ≡ file_stop_of_frame fault };
 
@@ -50,7 +50,7 @@ impl From<FrameFault> for FileStop {
 }
 
 impl From<ReadStop> for FileStop {
-    ghost use Rattle.corr_top.specs.Stops.{file_stop_of_read};
+    ghost use Rattle.corr_top.specs.inner.Stops.{file_stop_of_read};
 
     ghost from_gives = { λ stop result. result ≡ file_stop_of_read stop };
 
@@ -176,15 +176,12 @@ fn cut_in_pieces(alloc: Global, file: &[u8]) -> Result<List<Text>, FileStop>
 }
 
 /// Why a file that is no message file is none: its first byte past a limit, or its first fault.
-fn first_stop(alloc: Global, file: &[u8]) -> FileStop
+pub fn first_stop(alloc: Global, file: &[u8]) -> FileStop
     requires short { length file.now ≤ most_message_bytes + 1 }
     requires none { (messages : List (List ℕ)) → IsMessageFile file.now messages → ⊥ }
     ensures { StopsCutting file.now result }
 {
-    match cut_in_pieces(alloc, file) {
-        Err(stop) => stop,
-        Ok(_) => unreachable!(),
-    }
+    cut_in_pieces(alloc, file).unwrap_err()
 }
 
 /// The messages of a file within its limits, each where it stands. None where it is no message file.

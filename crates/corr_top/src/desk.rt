@@ -1,6 +1,6 @@
 //! The desk of a run: what a worker does with messages.
 
-ghost use Rattle.std.specs.Prelude.{◌≡◌, ◌≤◌, [], ◌∷◌, All, IfSome, IsSome, None, Ok, length, map, vec_capacity, vec_len};
+ghost use Rattle.std.specs.Prelude.{◌≡◌, ◌≤◌, [], ◌∷◌, All, IfSome, None, Ok, length, map, vec_capacity, vec_len};
 ghost use mathlib.Core.List.{IsPrefix};
 ghost use Rattle.fin_frame.specs.File.{most_bytes};
 ghost use Rattle.corr_books.specs.Passes.{Belongs};
@@ -8,28 +8,24 @@ ghost use Rattle.day_model.specs.Fit.{FitsAccounts};
 ghost use Rattle.day_model.specs.Shape.{HasShape, most_text};
 ghost use Rattle.fin_message.specs.Sound.{Goes, HasEnvelope, TextSays, lines_in};
 ghost use Rattle.fin_message.specs.declared.direction.Direction.TheVariants.{Received};
-ghost use Rattle.pay_plan.specs.Plan.{plan_of};
-ghost use Rattle.pay_plan.specs.Readable.{IsSomeReading, IsWritable};
-ghost use Rattle.corr_top.specs.Asks.{unplaced};
-ghost use Rattle.corr_top.specs.Batching.{IsBatch, IsSoundReading, ServesInTurn, made_in};
-ghost use Rattle.corr_top.specs.Message.{IsRouted, IsRoutedAs, pay_asked_of, pay_in, readings_of, unrouted};
-ghost use Rattle.corr_top.specs.Serving.{AnswersMessage, halt_of, served_of, starting};
+ghost use Rattle.corr_top.specs.inner.Asking.{IsAsking, IsWritten, pay_asked};
+ghost use Rattle.corr_top.specs.inner.Batching.{IsSoundReading, ServesInTurn, made_in};
+ghost use Rattle.corr_top.specs.Message.{pay_asked_of, pay_in, readings_of};
+ghost use Rattle.corr_top.specs.inner.Serving.{AnswersMessage, halt_of, served_of, starting};
 
 use crate::batching::{Batch, Lists, Made, make_lists, part, put_left, put_made};
 use crate::directory::Directory;
-use crate::message::{NoPay, Stop, read_message, reply_for};
+use crate::message::{Asking, NoPay, Stop, read_message, reply_for, route_message};
 use crate::worker::Worker;
 use corr_books::{Books, BooksName};
 use corr_disk::Disk;
-use corr_ids::{Envelope, Mir};
-use corr_text::{Text, let_go};
+use corr_ids::Mir;
+use corr_text::let_go;
 use day_model::{Pay, Reply};
-use fin_frame::Framed;
 use fin_layout::Found;
 use fin_message::Message;
 use front_word::Pass;
 use jrn_book::{CommitFault, Committed};
-use pay_plan::{Ask, Charged, pay_on};
 use std::alloc::Global;
 use std::sync::Wait;
 use work_pool::{Desk, Gate};
@@ -139,75 +135,65 @@ impl<'a, N: BooksName, D: Disk> RunDesk<'a, N, D> {
     {
         let accounts = self.books.accounts();
         match read_message(self.alloc, self.directory, accounts, text, found, room) {
-            Ok(charged) => self.enter(rt, pass, room, &charged, worker, gate),
+            Ok(()) => self.answer_valid(rt, pass, room, worker, gate),
             Err(Stop::NoPay(why)) => Served::Reply(reply_for(why)),
             Err(Stop::Memory) => Served::Stopped(Halt::Memory),
         }
     }
 
-    /// Enters the pay that a valid message asks for on these accounts, less what it is charged. The locks are taken once the pay is
-    /// known. It stands apart, so that what a pay takes isn't made room for where a message is refused.
-    #[inline(never)]
-    fn enter<R: Wait, G: Gate>(
+    /// Answers a valid message: enters the pay that it asks for, if it asks for one.
+    fn answer_valid<R: Wait, G: Gate>(
         &self,
         rt: &R,
         pass: &mut Pass,
         message: &Message,
-        charged: &Charged,
         worker: u32,
         gate: &G,
     ) -> Served
         requires pass { Belongs N.opening pass.old }
         requires received { Goes Received message.now × TextSays self.now.directory.now.tables message.now × HasEnvelope message.now }
         requires short { length (lines_in message.now) ≤ most_text }
-        requires routed { IsRouted self.now.directory.now N.opening.accounts message.now charged.now }
         ensures pass { Belongs N.opening pass.new }
         ensures answered { AnswersMessage N.opening (pay_in self.now.directory.now N.opening.accounts message.now) pass.old pass.new result }
     {
-        match self.make_pay(message, charged) {
+        match route_message(self.directory, self.books.accounts(), message) {
+            Ok(asking) => self.enter(rt, pass, &asking, worker, gate),
+            Err(why) => Served::Reply(reply_for(why)),
+        }
+    }
+
+    /// Enters the pay that a message asks for. The locks are taken once the pay is known. It stands apart, so that what a pay takes
+    /// isn't made room for where a message is refused.
+    #[inline(never)]
+    fn enter<R: Wait, G: Gate>(
+        &self,
+        rt: &R,
+        pass: &mut Pass,
+        asking: &Asking<'_>,
+        worker: u32,
+        gate: &G,
+    ) -> Served
+        requires pass { Belongs N.opening pass.old }
+        requires asks { IsAsking N.opening.accounts asking.now }
+        requires written { IsWritten asking.now }
+        ensures pass { Belongs N.opening pass.new }
+        ensures answered { AnswersMessage N.opening (Ok (pay_asked N.opening.accounts asking.now)) pass.old pass.new result }
+    {
+        match self.make_pay(asking) {
             Some(pay) => as_served(pay.mir, self.books.book(rt, pass, worker, &pay, gate)),
             None => Served::Stopped(Halt::Memory),
         }
     }
 
-    /// The pay that a valid message asks for on these accounts, less what it is charged. None where memory ran out.
-    fn make_pay(&self, message: &Message, charged: &Charged) -> Option<Pay>
-        requires received { Goes Received message.now × TextSays self.now.directory.now.tables message.now × HasEnvelope message.now }
-        requires short { length (lines_in message.now) ≤ most_text }
-        requires routed { IsRouted self.now.directory.now N.opening.accounts message.now charged.now }
-        ensures value { IfSome result (λ pay. pay_in self.now.directory.now N.opening.accounts message.now ≡ Ok pay) }
+    /// The pay that a message asks for. None where memory ran out.
+    fn make_pay(&self, asking: &Asking<'_>) -> Option<Pay>
+        requires asks { IsAsking N.opening.accounts asking.now }
+        requires written { IsWritten asking.now }
+        ensures value { IfSome result (λ pay. pay ≡ pay_asked N.opening.accounts asking.now) }
         ensures fits { IfSome result (FitsAccounts N.opening.accounts) }
         ensures shape { IfSome result HasShape }
     {
-        match message {
-            Message::Transfer(envelope, text, transfer) => {
-                self.pay_of(envelope, text, Ask::Transfer(transfer), charged)
-            }
-            Message::Cover(envelope, text, cover) => {
-                self.pay_of(envelope, text, Ask::Cover(cover), charged)
-            }
-            Message::Debit(..) | Message::Credit(..) | Message::Page(..) => unreachable!(),
-        }
-    }
-
-    /// The pay of a transfer or a cover.
-    fn pay_of(
-        &self,
-        envelope: &Envelope,
-        text: &Text,
-        ask: Ask<'_>,
-        charged: &Charged,
-    ) -> Option<Pay>
-        requires received { IsSome envelope.now.mir }
-        requires read { IsSomeReading ask }
-        requires writable { IsWritable envelope.now text.now }
-        requires routed { IsRoutedAs self.now.directory.now N.opening.accounts envelope.now text.now (unplaced ask) charged.now }
-        ensures value { IfSome result (λ pay. unrouted envelope.now (plan_of envelope.now text.now (unplaced ask.entry) self.now.directory.now.ssi self.now.directory.now.charges N.opening.accounts) ≡ Ok pay) }
-        ensures fits { IfSome result (FitsAccounts N.opening.accounts) }
-        ensures shape { IfSome result HasShape }
-    {
-        let accounts = self.books.accounts();
-        match pay_on(self.alloc, envelope, text, ask, charged, accounts) {
+        match asking.pay(self.alloc, self.books.accounts()) {
             Ok(pay) => Some(pay),
             Err(_) => None,
         }
@@ -221,27 +207,40 @@ impl<'a, N: BooksName, D: Disk> RunDesk<'a, N, D> {
     {
         let accounts = self.books.accounts();
         match read_message(self.alloc, self.directory, accounts, text, found, room) {
-            Ok(charged) => Some(Ok(self.make_pay(room, &charged)?)),
+            Ok(()) => self.read_valid(room),
             Err(Stop::NoPay(why)) => Some(Err(why)),
             Err(Stop::Memory) => None,
         }
     }
 
-    /// Reads messages, up to the first for which memory ran out.
+    /// The pay that a valid message asks for, or why it gives none. None where memory ran out.
+    fn read_valid(&self, message: &Message) -> Option<Result<Pay, NoPay>>
+        requires received { Goes Received message.now × TextSays self.now.directory.now.tables message.now × HasEnvelope message.now }
+        requires short { length (lines_in message.now) ≤ most_text }
+        ensures value { IfSome result (λ reading. reading ≡ pay_in self.now.directory.now N.opening.accounts message.now) }
+        ensures sound { IfSome result (IsSoundReading N.opening.accounts) }
+    {
+        match route_message(self.directory, self.books.accounts(), message) {
+            Ok(asking) => Some(Ok(self.make_pay(&asking)?)),
+            Err(why) => Some(Err(why)),
+        }
+    }
+
+    /// Reads the messages of a batch, up to the first for which memory ran out.
     fn read_all(
         &self,
         room: &mut Message,
         found: &mut Found,
-        messages: &[Framed<'a>],
+        batch: &Batch<N>,
         readings: &mut Vec<Result<Pay, NoPay>>,
     )
         requires none { readings.old.items ≡ [] }
-        requires room { length messages.now ≤ vec_capacity readings.old }
-        ensures front { IsPrefix readings.new.items (readings_of self.now.directory.now N.opening.accounts messages.now) }
+        requires room { length batch.now ≤ vec_capacity readings.old }
+        ensures front { IsPrefix readings.new.items (readings_of self.now.directory.now N.opening.accounts batch.now) }
         ensures sound { All (IsSoundReading N.opening.accounts) readings.new.items }
     {
-        for message in messages {
-            let Some(reading) = self.read(room, found, message.bytes()) else {
+        for at in 0..batch.len() {
+            let Some(reading) = self.read(room, found, batch.message(at)) else {
                 return;
             };
             readings.push_reserved(reading);
@@ -254,16 +253,15 @@ impl<'a, N: BooksName, D: Disk> RunDesk<'a, N, D> {
         rt: &R,
         pass: &mut Worker,
         worker: u32,
-        messages: &[Framed<'a>],
+        batch: &Batch<N>,
         gate: &G,
     ) -> Made
         requires pass { Belongs N.opening pass.old.pass }
         requires on { pass.old.halted ≡ None }
-        requires batch { IsBatch N.opening.most messages.now }
         ensures pass { Belongs N.opening pass.new.pass }
-        ensures served { ServesInTurn N.opening (readings_of self.now.directory.now N.opening.accounts messages.now) pass.old pass.new (made_in result) }
+        ensures served { ServesInTurn N.opening (readings_of self.now.directory.now N.opening.accounts batch.now) pass.old pass.new (made_in result) }
     {
-        let count = messages.len();
+        let count = batch.len();
         let Ok(lists) = make_lists(self.alloc, count) else {
             pass.halted = Some(Halt::Memory);
             return Made::None {
@@ -278,7 +276,7 @@ impl<'a, N: BooksName, D: Disk> RunDesk<'a, N, D> {
             mut answers,
             mut made,
         } = lists;
-        self.read_all(&mut pass.room, &mut pass.found, messages, &mut readings);
+        self.read_all(&mut pass.room, &mut pass.found, batch, &mut readings);
         part(readings, &mut asks, &mut pays);
         self.books.book_all(
             rt,
@@ -300,25 +298,18 @@ impl<'a, N: BooksName, D: Disk> RunDesk<'a, N, D> {
         rt: &R,
         pass: &mut Worker,
         worker: u32,
-        message: &Framed<'a>,
+        message: &[u8],
         gate: &G,
     ) -> Made
         requires pass { Belongs N.opening pass.old.pass }
         requires on { pass.old.halted ≡ None }
+        requires short { length message.now ≤ most_bytes }
         ensures pass { Belongs N.opening pass.new.pass }
         ensures served { ServesInTurn N.opening (pay_asked_of self.now.directory.now N.opening.accounts message.now ∷ []) pass.old pass.new (made_in result) }
     {
         let room = &mut pass.room;
         let found = &mut pass.found;
-        let one = self.answer(
-            rt,
-            &mut pass.pass,
-            room,
-            found,
-            worker,
-            message.bytes(),
-            gate,
-        );
+        let one = self.answer(rt, &mut pass.pass, room, found, worker, message, gate);
         pass.halted = halt_of(&one);
         Made::One(one)
     }
@@ -326,12 +317,12 @@ impl<'a, N: BooksName, D: Disk> RunDesk<'a, N, D> {
 
 impl<'a, N: BooksName + Send + Sync, D: Disk + Drop + Send> Desk for RunDesk<'a, N, D> {
     ghost use Rattle.corr_books.specs.Passes.{Belongs};
-    ghost use Rattle.corr_top.specs.Batching.{ServesInTurn, made_in};
+    ghost use Rattle.corr_top.specs.inner.Batching.{ServesInTurn, made_in};
     ghost use Rattle.corr_top.specs.Message.{readings_of};
 
     type Pass = Worker;
 
-    type Job = Batch<'a, N>;
+    type Job = Batch<N>;
 
     type Reply = Made;
 
@@ -346,19 +337,20 @@ impl<'a, N: BooksName + Send + Sync, D: Disk + Drop + Send> Desk for RunDesk<'a,
         rt: &R,
         pass: &mut Worker,
         worker: u32,
-        job: &Batch<'a, N>,
+        job: &Batch<N>,
         gate: &G,
     ) -> Made {
-        let messages = job.messages();
+        let count = job.len();
         if let Some(why) = pass.halted {
             return Made::None {
-                messages: messages.len(),
+                messages: count,
                 why,
             };
         }
-        match messages {
-            [message] => self.answer_one(rt, pass, worker, message, gate),
-            _ => self.answer_all(rt, pass, worker, messages, gate),
+        if count == 1 {
+            self.answer_one(rt, pass, worker, job.message(0), gate)
+        } else {
+            self.answer_all(rt, pass, worker, job, gate)
         }
     }
 }

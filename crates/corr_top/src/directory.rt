@@ -3,7 +3,7 @@
 ghost use Rattle.std.specs.Prelude.{IfOk, IfErr, IsTrue};
 ghost use Rattle.ref_tables.specs.Seen.{few_decimals};
 ghost use Rattle.ssi_versions.specs.InstructionList.{AreInstructions};
-ghost use Rattle.corr_top.specs.Tables.{HasDirectory, StopsDirectory};
+ghost use Rattle.corr_top.specs.inner.Tables.{HasDirectory, StopsDirectory};
 
 use crate::room::Tables;
 use crate::tables::{TableStop, read_charged, read_instructions, read_known};

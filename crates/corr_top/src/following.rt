@@ -5,14 +5,15 @@ ghost use Rattle.standby.specs.declared.packet.Packet.{Packet};
 ghost use Rattle.standby.specs.Held.{IsHeld, IsOnDisk, records_of};
 ghost use Rattle.standby.specs.Shipping.{shipped};
 ghost use Rattle.corr_top.specs.Commands.{meaning_of};
-ghost use Rattle.corr_top.specs.Ends.{HasTexts};
-ghost use Rattle.corr_top.specs.Followed.{ArePackets, EndsWithin, GivesFollowed, GivesTaken, HasFile, StopsAtPackets, follow_line};
+ghost use Rattle.corr_top.specs.inner.Ends.{HasTexts};
+ghost use Rattle.corr_top.specs.Followed.{ArePackets, EndsWithin, HasFile, StopsAtPackets, follow_line};
+ghost use Rattle.corr_top.specs.inner.Followed.{GivesFollowed, GivesTaken};
 ghost use Rattle.corr_top.specs.MessageFile.{most_message_bytes};
 ghost use Rattle.corr_top.specs.Stops.{status_of_taking};
 ghost use Rattle.corr_top.specs.declared.words.Command.TheVariants.{Plain as PlainCommand};
 ghost use Rattle.corr_top.specs.declared.words.Plain.TheVariants as plain;
 
-use crate::cutting::FileStop;
+use crate::cutting::{FILE_LIMIT, FileStop};
 use crate::reading::read_whole;
 use crate::room::Room;
 use crate::status::Status;
@@ -23,17 +24,14 @@ use corr_text::{Memory, Text, put_digits};
 use standby::{Follower, TakeFault, first_packet};
 use std::alloc::Global;
 
-/// The most bytes of a file of packets: 64 MiB.
-const PACKETS_LIMIT: usize = 67_108_864;
-
 /// The bytes of the file of packets.
 fn read_packets<S: Source>(alloc: Global, source: &mut S) -> Result<Text, FileStop>
     ensures read { IfOk result (HasFile S.Source source.old source.new) }
     ensures stopped { IfErr result (λ stop. (bytes : List ℕ) × StopsAtPackets S.Source source.old source.new bytes stop) }
 {
-    let file = read_whole(alloc, source, PACKETS_LIMIT)?;
+    let file = read_whole(alloc, source, FILE_LIMIT)?;
     let count = file.bytes().len();
-    if count > PACKETS_LIMIT {
+    if count > FILE_LIMIT {
         return Err(FileStop::TooLarge {
             bytes: count as u64,
             messages: 0,

@@ -2,7 +2,7 @@
 
 ghost use Rattle.std.specs.Prelude.{◌≤◌};
 ghost use Rattle.corr_report.specs.Generated.{most_generated};
-ghost use Rattle.corr_top.specs.Generate.{GivesGenerated};
+ghost use Rattle.corr_top.specs.inner.Generate.{GivesGenerated};
 
 use crate::status::Status;
 use crate::writing::Texts;

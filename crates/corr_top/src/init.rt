@@ -6,9 +6,9 @@ ghost use Rattle.day_model.specs.Chart.{Chart};
 ghost use Rattle.jrn_codec.specs.Header.{IsHead, head_bytes};
 ghost use Rattle.jrn_file.specs.Reading.{most_record_bytes};
 ghost use Rattle.corr_top.specs.Commands.{meaning_of};
-ghost use Rattle.corr_top.specs.Ends.{HasTexts};
+ghost use Rattle.corr_top.specs.inner.Ends.{HasTexts};
 ghost use Rattle.corr_top.specs.OnDisk.{HasNotFailed, IsMakeable, IsOnDisk, MakesInTurn, StopsMaking};
-ghost use Rattle.corr_top.specs.Tables.{HasAccounts, StopsAccounts};
+ghost use Rattle.corr_top.specs.inner.Tables.{HasAccounts, StopsAccounts};
 ghost use Rattle.corr_top.specs.declared.words.Command.TheVariants.{Plain as PlainCommand};
 ghost use Rattle.corr_top.specs.declared.words.Plain.TheVariants.{Init};
 

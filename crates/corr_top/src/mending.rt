@@ -2,9 +2,11 @@
 
 ghost use Rattle.std.specs.Prelude.{◌≡◌, ◌≤◌, IfErr, IfOk, List, ℕ};
 ghost use Rattle.jrn_book.specs.Journal.{IsJournal};
-ghost use Rattle.corr_top.specs.Commands.{IsSpelled, meaning_of};
-ghost use Rattle.corr_top.specs.Ends.{HasTexts};
-ghost use Rattle.corr_top.specs.Mend.{GivesMended, mended_out};
+ghost use Rattle.corr_top.specs.Commands.{meaning_of};
+ghost use Rattle.corr_top.specs.inner.Commands.{IsSpelled};
+ghost use Rattle.corr_top.specs.inner.Ends.{HasTexts};
+ghost use Rattle.corr_top.specs.Mend.{mended_out};
+ghost use Rattle.corr_top.specs.inner.Mend.{GivesMended};
 ghost use Rattle.corr_top.specs.Passing.{HasSent, StopsAtSent};
 ghost use Rattle.corr_top.specs.declared.words.Command.TheVariants.{Plain as PlainCommand};
 ghost use Rattle.corr_top.specs.declared.words.Plain.TheVariants as plain;

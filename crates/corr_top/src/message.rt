@@ -1,22 +1,25 @@
 //! A message, read to the pay that it asks for.
 
-ghost use Rattle.std.specs.Prelude.{◌≡◌, ◌≤◌, ℕ, Err, IfErr, IfOk, IsSome, List, OnOk, length};
+ghost use Rattle.std.specs.Prelude.{◌≡◌, ◌≤◌, Err, IfErr, IfOk, IsSome, Ok, OnOk, Some, length};
+ghost use Rattle.day_model.specs.Fit.{FitsAccounts};
+ghost use Rattle.day_model.specs.Shape.{HasShape, most_text};
 ghost use Rattle.fin_frame.specs.File.{most_bytes};
-ghost use Rattle.day_model.specs.Shape.{most_text};
 ghost use Rattle.fin_message.specs.Sound.{Goes, HasEnvelope, TextSays, lines_in};
 ghost use Rattle.fin_message.specs.declared.direction.Direction.TheVariants.{Received};
 ghost use Rattle.pay_plan.specs.Plan.{mir_of_envelope, plan_of};
-ghost use Rattle.corr_top.specs.Asks.{unplaced};
-ghost use Rattle.corr_top.specs.Message.{IsRouted, IsRoutedAs, pay_asked_of, pay_in, reply_for, unrouted};
-ghost use Rattle.corr_top.specs.Replies.{FailsAs};
+ghost use Rattle.pay_plan.specs.Readable.{IsSomeReading, IsWritable};
+ghost use Rattle.corr_top.specs.inner.Asking.{IsAsking, IsWritten, pay_asked};
+ghost use Rattle.corr_top.specs.inner.Asks.{unplaced};
+ghost use Rattle.corr_top.specs.Message.{pay_asked_of, pay_in, reply_for, unrouted};
+ghost use Rattle.corr_top.specs.inner.Replies.{FailsAs};
 
 use crate::directory::Directory;
 use corr_ids::{Envelope, Mir};
-use corr_text::{Code, Fault};
-use day_model::{Accounts, Reply};
+use corr_text::{Code, Fault, Memory, Text};
+use day_model::{Accounts, Pay, Reply};
 use fin_layout::Found;
 use fin_message::{Message, MessageFault, verdict_into};
-use pay_plan::{Ask, Charged, accounts_of};
+use pay_plan::{Ask, Asked, Charged, accounts_of, asked_of, pay_on};
 use std::alloc::Global;
 
 /// An advice or a page of a statement: it tells of an account and asks for no pay.
@@ -39,7 +42,7 @@ pub enum Stop {
 }
 
 impl From<MessageFault> for Stop {
-    ghost use Rattle.corr_top.specs.Replies.{stop_of_verdict};
+    ghost use Rattle.corr_top.specs.inner.Replies.{stop_of_verdict};
 
     ghost from_gives = { λ fault stop. stop ≡ stop_of_verdict fault };
 
@@ -64,27 +67,95 @@ pub fn reply_for(why: NoPay) -> Reply
 /// The reference of a received message.
 pub fn reference(envelope: &Envelope) -> Mir
     requires { IsSome envelope.now.mir }
-    ensures { result ≡ mir_of_envelope envelope.now }
+    ensures value { result ≡ mir_of_envelope envelope.now }
+    ensures there { envelope.now.mir ≡ Some result }
 {
-    match envelope.mir {
-        Some(mir) => mir,
-        None => unreachable!(),
+    envelope.mir.unwrap()
+}
+
+/// A message that asks for a pay and has one: its reference, its envelope and text, what it asks of the books, and the accounts that
+/// it has, with what it is charged.
+#[derive(Drop)]
+pub struct Asking<'m> {
+    pub mir: Mir,
+    pub envelope: &'m Envelope,
+    pub text: &'m Text,
+    pub asked: Asked<'m>,
+    pub charged: Charged,
+}
+
+impl<'m> Asking<'m> {
+    /// The pay. `Memory`: there was no room for it.
+    pub fn pay(&self, alloc: Global, accounts: &Accounts) -> Result<Pay, Memory>
+        requires { IsAsking accounts.now self.now }
+        ensures value { IfOk result (λ pay. pay ≡ pay_asked accounts.now self.now) }
+        ensures fits { IfOk result (FitsAccounts accounts.now) }
+        ensures shape { IsWritten self.now → IfOk result HasShape }
+    {
+        pay_on(
+            alloc,
+            self.mir,
+            self.envelope,
+            self.text,
+            &self.asked,
+            &self.charged,
+            accounts,
+        )
     }
 }
 
-/// The accounts of a message that asks for a pay and what it is charged, or why it has none.
-pub fn find_accounts(
+/// What a message asks, on the accounts that it has; or the code with which it has none. Takes no memory.
+pub fn route_ask<'m>(
     directory: &Directory,
     accounts: &Accounts,
-    envelope: &Envelope,
-    ask: Ask<'_>,
-) -> Result<Charged, NoPay>
+    envelope: &'m Envelope,
+    text: &'m Text,
+    ask: Ask<'m>,
+) -> Result<Asking<'m>, Code>
     requires received { IsSome envelope.now.mir }
-    ensures routed { (text : List ℕ) → IfOk result (IsRoutedAs directory.now accounts.now envelope.now text (unplaced ask.entry)) }
-    ensures refused { IfErr result (λ why. (text : List ℕ) → unrouted envelope.now (plan_of envelope.now text (unplaced ask.entry) directory.now.ssi directory.now.charges accounts.now) ≡ Err why) }
+    requires read { IsSomeReading ask }
+    ensures asks { IfOk result (IsAsking accounts.now) }
+    ensures plan { IfOk result (λ asking. plan_of envelope.now text.now (unplaced ask.entry) directory.now.ssi directory.now.charges accounts.now ≡ Ok (pay_asked accounts.now asking)) }
+    ensures written { IsWritable envelope.now text.now → IfOk result IsWritten }
+    ensures refused { IfErr result (λ code. plan_of envelope.now text.now (unplaced ask.entry) directory.now.ssi directory.now.charges accounts.now ≡ Err code) }
 {
-    match accounts_of(envelope, ask, &directory.ssi, accounts, &directory.charges) {
-        Ok(charged) => Ok(charged),
+    let asked = asked_of(accounts.home(), ask);
+    match accounts_of(
+        envelope,
+        ask,
+        &asked,
+        &directory.ssi,
+        accounts,
+        &directory.charges,
+    ) {
+        Ok(charged) => Ok(Asking {
+            mir: reference(envelope),
+            envelope,
+            text,
+            asked,
+            charged,
+        }),
+        Err(code) => Err(code),
+    }
+}
+
+/// The same, or why the message gives no pay.
+fn route_received<'m>(
+    directory: &Directory,
+    accounts: &Accounts,
+    envelope: &'m Envelope,
+    text: &'m Text,
+    ask: Ask<'m>,
+) -> Result<Asking<'m>, NoPay>
+    requires received { IsSome envelope.now.mir }
+    requires read { IsSomeReading ask }
+    ensures asks { IfOk result (IsAsking accounts.now) }
+    ensures pay { IfOk result (λ asking. unrouted envelope.now (plan_of envelope.now text.now (unplaced ask.entry) directory.now.ssi directory.now.charges accounts.now) ≡ Ok (pay_asked accounts.now asking)) }
+    ensures written { IsWritable envelope.now text.now → IfOk result IsWritten }
+    ensures refused { IfErr result (λ why. unrouted envelope.now (plan_of envelope.now text.now (unplaced ask.entry) directory.now.ssi directory.now.charges accounts.now) ≡ Err why) }
+{
+    match route_ask(directory, accounts, envelope, text, ask) {
+        Ok(asking) => Ok(asking),
         Err(code) => Err(NoPay::Unrouted {
             mir: reference(envelope),
             code,
@@ -92,24 +163,26 @@ pub fn find_accounts(
     }
 }
 
-/// The accounts of a valid message and what it is charged, or why it has no pay. An advice and a page of a statement ask for
-/// none. Takes no memory.
-fn route_message(
+/// What a valid message asks, on the accounts that it has, or why it gives no pay. An advice and a page of a statement ask for none.
+/// Takes no memory.
+pub fn route_message<'m>(
     directory: &Directory,
     accounts: &Accounts,
-    message: &Message,
-) -> Result<Charged, NoPay>
-    requires received { Goes Received message.now }
-    requires envelope { HasEnvelope message.now }
-    ensures routed { IfOk result (IsRouted directory.now accounts.now message.now) }
+    message: &'m Message,
+) -> Result<Asking<'m>, NoPay>
+    requires received { Goes Received message.now × TextSays directory.now.tables message.now × HasEnvelope message.now }
+    requires short { length (lines_in message.now) ≤ most_text }
+    ensures asks { IfOk result (IsAsking accounts.now) }
+    ensures pay { IfOk result (λ asking. pay_in directory.now accounts.now message.now ≡ Ok (pay_asked accounts.now asking)) }
+    ensures written { IfOk result IsWritten }
     ensures refused { IfErr result (λ why. pay_in directory.now accounts.now message.now ≡ Err why) }
 {
     match message {
-        Message::Transfer(envelope, _, transfer) => {
-            find_accounts(directory, accounts, envelope, Ask::Transfer(transfer))
+        Message::Transfer(envelope, text, transfer) => {
+            route_received(directory, accounts, envelope, text, Ask::Transfer(transfer))
         }
-        Message::Cover(envelope, _, cover) => {
-            find_accounts(directory, accounts, envelope, Ask::Cover(cover))
+        Message::Cover(envelope, text, cover) => {
+            route_received(directory, accounts, envelope, text, Ask::Cover(cover))
         }
         Message::Debit(envelope, _) | Message::Credit(envelope, _) | Message::Page(envelope, _) => {
             Err(NoPay::Unrouted {
@@ -120,8 +193,8 @@ fn route_message(
     }
 }
 
-/// Reads a message of at most 16,384 bytes into `room` and answers its accounts with what it is charged, or tells why it gives no
-/// pay: then `room` may say anything. `found` is room for the places of its fields.
+/// Reads a message of at most 16,384 bytes into `room`, or tells why it gives no pay: then `room` may say anything. `found` is room
+/// for the places of its fields.
 #[tactic(auto, unfolding(crate::specs::Message::pay_asked_of))]
 pub fn read_message(
     alloc: Global,
@@ -130,17 +203,13 @@ pub fn read_message(
     b: &[u8],
     found: &mut Found,
     room: &mut Message,
-) -> Result<Charged, Stop>
+) -> Result<(), Stop>
     requires { length b.now ≤ most_bytes }
     ensures stopped { IfErr result (λ stop. FailsAs stop (pay_asked_of directory.now accounts.now b.now)) }
     ensures read { OnOk result (pay_asked_of directory.now accounts.now b.now ≡ pay_in directory.now accounts.now room.new) }
     ensures received { OnOk result (Goes Received room.new × TextSays directory.now.tables room.new × HasEnvelope room.new) }
     ensures short { OnOk result (length (lines_in room.new) ≤ most_text) }
-    ensures routed { IfOk result (IsRouted directory.now accounts.now room.new) }
 {
     verdict_into(alloc, b, accounts.home(), &directory.tables, found, room)?;
-    match route_message(directory, accounts, room) {
-        Ok(charged) => Ok(charged),
-        Err(why) => Err(Stop::NoPay(why)),
-    }
+    Ok(())
 }

@@ -4,7 +4,8 @@ ghost use Rattle.std.specs.Prelude.{◌≡◌, IfErr, IfOk, MatchResult};
 ghost use Rattle.jrn_book.specs.Book.{StandsOnDisk};
 ghost use Rattle.jrn_book.specs.Journal.{IsJournal};
 ghost use Rattle.jrn_file.specs.File.{disk_of};
-ghost use Rattle.corr_top.specs.OnDisk.{HasOpened, StopsOpening};
+ghost use Rattle.corr_top.specs.OnDisk.{StopsOpening};
+ghost use Rattle.corr_top.specs.inner.OnDisk.{HasOpened};
 
 use crate::status::Status;
 use acct_locks::Loose;

@@ -5,8 +5,9 @@ ghost use Rattle.corr_ids.specs.Day.{InCentury};
 ghost use Rattle.fin_frame.specs.File.{most_bytes};
 ghost use Rattle.ref_tables.specs.Seen.{few_decimals};
 ghost use Rattle.corr_top.specs.Commands.{meaning_of};
-ghost use Rattle.corr_top.specs.Ends.{HasTexts};
-ghost use Rattle.corr_top.specs.Page.{GivesPage, GivesShown, day_page};
+ghost use Rattle.corr_top.specs.inner.Ends.{HasTexts};
+ghost use Rattle.corr_top.specs.Page.{day_page};
+ghost use Rattle.corr_top.specs.inner.Page.{GivesPage, GivesShown};
 ghost use Rattle.corr_top.specs.declared.words.Command.TheVariants.{Plain as PlainCommand};
 ghost use Rattle.corr_top.specs.declared.words.Plain.TheVariants as plain;
 

@@ -2,9 +2,11 @@
 //! `customer-statements`, `balances` and `entries`.
 
 ghost use Rattle.std.specs.Prelude.{◌≡◌, IfOk, OnOk};
-ghost use Rattle.corr_top.specs.Commands.{IsSpelled, meaning_of};
-ghost use Rattle.corr_top.specs.Ends.{HasTexts};
-ghost use Rattle.corr_top.specs.Query.{GivesAsked, QuerySends, query_out, query_report};
+ghost use Rattle.corr_top.specs.Commands.{meaning_of};
+ghost use Rattle.corr_top.specs.inner.Commands.{IsSpelled};
+ghost use Rattle.corr_top.specs.inner.Ends.{HasTexts};
+ghost use Rattle.corr_top.specs.Query.{QuerySends, query_out, query_report};
+ghost use Rattle.corr_top.specs.inner.Query.{GivesAsked};
 ghost use Rattle.corr_top.specs.declared.words.Command.TheVariants.{Plain};
 ghost use Rattle.corr_top.specs.declared.words.Plain.TheVariants as plain;
 ghost use Rattle.jrn_book.specs.Journal.{IsJournal};

@@ -1,14 +1,17 @@
 //! A source, read whole or past a limit.
 
-ghost use Rattle.std.specs.Prelude.{◌≡◌, ◌+◌, ◌<◌, ◌^◌, vec_len, IfOk, IfErr};
-ghost use Rattle.corr_top.specs.Reading.{IsStopped, Took, chunk_bytes};
+ghost use Rattle.std.specs.Prelude.{◌≡◌, ◌≤◌, ◌<◌, ◌^◌, ℕ, List, true, false, length, vec_len, IfOk, IfErr, OnOk};
+ghost use Rattle.std.specs.Io.KnownBytes.{IsAtEnd};
+ghost use Rattle.std.specs.declared.option.Option.{Option};
+ghost use Rattle.corr_top.specs.Reading.{Took};
+ghost use Rattle.corr_top.specs.inner.Reading.{AddsRead, IsStopped, chunk_bytes};
 
 use corr_io::Source;
 use corr_text::{Memory, Text};
 use std::alloc::{AllocError, Global};
 
 /// How many bytes one read asks for at most.
-const CHUNK: usize = 65536;
+pub const CHUNK: usize = 65536;
 
 /// Why a source was not read: its count of faults rose by one, from `before` to `after`, or memory ran out.
 #[derive(Drop)]
@@ -37,26 +40,35 @@ impl From<AllocError> for ReadStop {
     }
 }
 
-fn make_chunk(alloc: Global) -> Result<Vec<u8>, AllocError>
+pub fn make_chunk(alloc: Global) -> Result<Vec<u8>, AllocError>
     ensures { IfOk result (λ v. vec_len v ≡ chunk_bytes) }
 {
     vec![in alloc; 0u8; CHUNK]
 }
 
-/// The bytes of a source up to its end, or one byte more than `limit` where it has more than that. `Fault`: a read failed.
-pub fn read_whole<S: Source>(alloc: Global, source: &mut S, limit: usize) -> Result<Text, ReadStop>
-    requires { limit < 2 ^ 32 }
-    ensures read { IfOk result (Took S.left S.faults limit source.old source.new) }
+/// Reads behind a text until it has so many bytes, or nothing is left of the source, which it tells. `Fault`: a read failed. What was
+/// read before a failure stays.
+pub fn read_until<S: Source>(
+    source: &mut S,
+    chunk: &mut [u8],
+    until: usize,
+    text: &mut Text,
+) -> Result<bool, ReadStop>
+    requires chunk { length chunk.old ≡ chunk_bytes }
+    ensures read { OnOk result (AddsRead (S.left source.old) (S.left source.new) text.old text.new) }
+    ensures kept { OnOk result (S.faults source.new ≡ S.faults source.old) }
+    ensures ended { IfOk result (λ ended. ended ≡ true → IsAtEnd (S.left source.new)) }
+    ensures full { IfOk result (λ ended. ended ≡ false → until ≤ length text.new) }
+    ensures bound { length text.old ≤ until → length text.new ≤ until }
     ensures stopped { IfErr result (IsStopped S.faults source.old source.new) }
+    ensures text { (rest : Option (List ℕ)) × AddsRead (S.left source.old) rest text.old text.new }
 {
     let before = source.faults();
-    let mut text = Text::from_bytes(alloc, &[])?;
-    let mut chunk = make_chunk(alloc)?;
-    while text.bytes().len() <= limit {
-        let room = (limit + 1 - text.bytes().len()).min(CHUNK);
+    while text.bytes().len() < until {
+        let room = (until - text.bytes().len()).min(CHUNK);
         let room = &mut chunk[..room];
         match source.read(room) {
-            Ok(0) => return Ok(text),
+            Ok(0) => return Ok(true),
             Ok(count) => text.push(&room[..count])?,
             Err(_) => {
                 return Err(ReadStop::Fault {
@@ -66,5 +78,17 @@ pub fn read_whole<S: Source>(alloc: Global, source: &mut S, limit: usize) -> Res
             }
         }
     }
+    Ok(false)
+}
+
+/// The bytes of a source up to its end, or one byte more than `limit` where it has more than that. `Fault`: a read failed.
+pub fn read_whole<S: Source>(alloc: Global, source: &mut S, limit: usize) -> Result<Text, ReadStop>
+    requires { limit < 2 ^ 32 }
+    ensures read { IfOk result (Took S.left S.faults limit source.old source.new) }
+    ensures stopped { IfErr result (IsStopped S.faults source.old source.new) }
+{
+    let mut text = Text::from_bytes(alloc, &[])?;
+    let mut chunk = make_chunk(alloc)?;
+    read_until(source, &mut chunk, limit + 1, &mut text)?;
     Ok(text)
 }

@@ -2,7 +2,7 @@
 
 ghost use Rattle.std.specs.Prelude.{◌≡◌, ◌≤◌, ◌++◌, All, IfOk, IsTrue, OnOk, length};
 ghost use Rattle.fin_frame.specs.File.{most_bytes};
-ghost use Rattle.corr_report.specs.Report.{NamesPlace, reply_line};
+ghost use Rattle.corr_report.specs.Report.{reply_line};
 ghost use Rattle.day_model.specs.Legal.{IsLegal};
 ghost use Rattle.fin_contents.specs.Writing.{IsReadable};
 ghost use Rattle.fin_message.specs.Sound.{CanBeWritten, Goes};
@@ -11,14 +11,16 @@ ghost use Rattle.jrn_book.specs.Journal.{IsJournal};
 ghost use Rattle.mt950.specs.Page.{mt950_of};
 ghost use Rattle.ref_tables.specs.Seen.{few_decimals};
 ghost use Rattle.corr_top.specs.Commands.{meaning_of};
-ghost use Rattle.corr_top.specs.Ends.{HasTexts};
+ghost use Rattle.corr_top.specs.inner.Ends.{HasTexts};
+ghost use Rattle.corr_top.specs.Message.{reply_for};
 ghost use Rattle.corr_top.specs.MessageFile.{most_messages};
-ghost use Rattle.corr_top.specs.Reconcile.{CanBeTold, Collects, GivesBreaks, break_report, envelope_in, read_as, read_from};
+ghost use Rattle.corr_top.specs.Reconcile.{break_report, envelope_in, read_as, read_from};
+ghost use Rattle.corr_top.specs.inner.Reconcile.{CanBeTold, Collects, GivesBreaks};
 ghost use Rattle.corr_top.specs.declared.words.Command.TheVariants.{Plain as PlainCommand};
 ghost use Rattle.corr_top.specs.declared.words.Plain.TheVariants as plain;
 
 use crate::cutting::{cut_file, read_file};
-use crate::message::{P37, reference};
+use crate::message::{NoPay, P37, reference, reply_for};
 use crate::opening::{close_journal, open_journal};
 use crate::room::Room;
 use crate::status::Status;
@@ -29,7 +31,7 @@ use corr_ids::{Bic, Envelope};
 use corr_io::{Sink, Source};
 use corr_report::reply_line;
 use corr_text::{Memory, Text, let_go};
-use day_model::{Accounts, History, Reply};
+use day_model::{Accounts, History};
 use fin_frame::Framed;
 use fin_message::{Message, MessageFault, verdict};
 use mt950::Page950;
@@ -37,11 +39,11 @@ use reconcile::breaks;
 use ref_tables::RefTables;
 use std::alloc::Global;
 
-/// What a received message is: a page of a statement, or this reply.
+/// What a received message is: a page of a statement, or one that gives no pay here, for this reason.
 #[derive(Drop)]
 pub enum Read {
     Page(Page950),
-    Other(Reply),
+    Other(NoPay),
 }
 
 /// The envelope of a message.
@@ -69,7 +71,7 @@ fn kind_of(message: Message) -> Read
         message => {
             let mir = reference(envelope(&message));
             let_go(message);
-            Read::Other(Reply::Unrouted { mir, code: P37 })
+            Read::Other(NoPay::Unrouted { mir, code: P37 })
         }
     }
 }
@@ -83,25 +85,24 @@ fn judge(alloc: Global, home: &Bic, tables: &RefTables, message: &[u8]) -> Resul
 {
     match verdict(alloc, message, home, tables) {
         Ok(message) => Ok(kind_of(message)),
-        Err(MessageFault::Refused { mir, fault }) => Ok(Read::Other(Reply::Refused { mir, fault })),
+        Err(MessageFault::Refused { mir, fault }) => Ok(Read::Other(NoPay::Refused { mir, fault })),
         Err(MessageFault::Memory) => Err(Memory),
     }
 }
 
-/// Adds the line of the `n`-th message.
-fn put_reply_line(
+/// Adds the line of the `n`-th message, which is no page.
+fn put_other_line(
     alloc: Global,
     a: &Accounts,
     h: &History,
     n: u64,
-    reply: &Reply,
+    why: NoPay,
     report: &mut Text,
 ) -> Result<(), Memory>
     requires legal { IsLegal a.now h.now.entries }
-    requires place { NamesPlace h.now.entries reply.now }
-    ensures { OnOk result (report.new ≡ report.old ++ reply_line a.now h.now.entries n reply.now) }
+    ensures { OnOk result (report.new ≡ report.old ++ reply_line a.now h.now.entries n (reply_for why)) }
 {
-    let line = reply_line(alloc, a, h, n, reply)?;
+    let line = reply_line(alloc, a, h, n, &reply_for(why))?;
     report.push(line.bytes())
 }
 
@@ -126,7 +127,7 @@ fn collect(
     for (at, message) in messages.iter().enumerate() {
         match judge(alloc, a.home(), tables, message.bytes())? {
             Read::Page(page) => pages.push(page)?,
-            Read::Other(reply) => put_reply_line(alloc, a, h, at as u64 + 1, &reply, report)?,
+            Read::Other(why) => put_other_line(alloc, a, h, at as u64 + 1, why, report)?,
         }
     }
     Ok(pages)

@@ -7,7 +7,7 @@ ghost use Rattle.jrn_book.specs.Journal.{IsJournal, item_records};
 ghost use Rattle.jrn_codec.specs.Change.{IsWhat, change_bytes};
 ghost use Rattle.jrn_codec.specs.Record.{IsEntry, entry_bytes};
 ghost use Rattle.jrn_file.specs.Reading.{most_record_bytes};
-ghost use Rattle.corr_top.specs.Ship.{AddsDue, AreDue};
+ghost use Rattle.corr_top.specs.inner.Ship.{AddsDue, AreDue};
 
 use corr_text::{Buf, Memory, Text};
 use day_model::{Accounts, Change, Entry, History, What};

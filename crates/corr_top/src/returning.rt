@@ -16,9 +16,9 @@ ghost use Rattle.day_model.specs.declared.reply.Reply.{Reply as TheReply};
 ghost use Rattle.jrn_book.specs.Journal.{IsJournal};
 ghost use Rattle.jrn_file.specs.File.{disk_of};
 ghost use Rattle.corr_top.specs.Commands.{meaning_of};
-ghost use Rattle.corr_top.specs.Ends.{HasTexts};
-ghost use Rattle.corr_top.specs.Returning.{GivesBooked, GivesEntry, GivesLast, GivesReturned, IsEntered};
-ghost use Rattle.corr_top.specs.Serving.{HasPayShape, are_replies};
+ghost use Rattle.corr_top.specs.inner.Ends.{HasTexts};
+ghost use Rattle.corr_top.specs.inner.Returning.{GivesBooked, GivesEntry, GivesLast, GivesReturned, IsEntered};
+ghost use Rattle.corr_top.specs.inner.Serving.{HasPayShape, are_replies};
 ghost use Rattle.corr_top.specs.declared.words.Command.TheVariants.{Return};
 
 use crate::answers::check_replies;

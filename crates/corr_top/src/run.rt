@@ -10,24 +10,25 @@ ghost use Rattle.jrn_book.specs.Journal.{IsJournal};
 ghost use Rattle.ssi_versions.specs.InstructionList.{AreInstructions};
 ghost use Rattle.work_pool.specs.Served.{most_workers};
 ghost use Rattle.corr_top.specs.Commands.{meaning_of};
-ghost use Rattle.corr_top.specs.Days.{GivesDay, GivesServed, GivesTexts};
-ghost use Rattle.corr_top.specs.Ends.{HasTexts};
-ghost use Rattle.corr_top.specs.Origin.{SendsAccepted};
+ghost use Rattle.corr_top.specs.inner.Days.{GivesDay, GivesServed, GivesTexts};
+ghost use Rattle.corr_top.specs.inner.Streamed.{GivesStream};
+ghost use Rattle.corr_top.specs.inner.Ends.{HasTexts};
+ghost use Rattle.corr_top.specs.inner.Origin.{SendsAccepted};
 ghost use Rattle.corr_top.specs.MessageFile.{most_messages};
 ghost use Rattle.corr_top.specs.Out.{sent_from};
-ghost use Rattle.corr_top.specs.Serving.{HasPayShape, are_replies};
+ghost use Rattle.corr_top.specs.inner.Serving.{HasPayShape, are_replies};
 ghost use Rattle.corr_top.specs.declared.words.Command.TheVariants.{Run};
 ghost use Rattle.corr_top.specs.declared.desk.Served.TheVariants.{Reply as HasReply};
 ghost use Rattle.day_model.specs.declared.reply.Reply.{Reply as TheReply};
 
 use crate::answers::check_replies;
-use crate::cutting::{cut_file, read_file};
 use crate::desk::Served;
 use crate::directory::{Directory, read_directory};
 use crate::outgoing::outgoing;
 use crate::room::Room;
-use crate::serving::{ServedDay, serve_all};
+use crate::serving::{ServedDay, StreamedDay, serve_stream};
 use crate::status::Status;
+use crate::stream::{MessageFile, Stage};
 use crate::writing::Texts;
 use corr_books::{Closed, Opened, open_books};
 use corr_disk::Disk;
@@ -126,9 +127,8 @@ pub fn into_disk<D: Disk>(closed: Closed<D>) -> D
     closed.disk
 }
 
-/// The disk and the texts of a day that was served, or why there are none. The disk's count of faults was `before` at the
-/// opening, and the history then had `count` entries. The report is made in the memory of `room`.
-fn end_day<D: Disk + Drop>(
+/// The disk and the texts of a day whose messages were served, or why there are none. The report is made in the memory of `room`.
+fn end_served<D: Disk + Drop>(
     alloc: Global,
     day: ServedDay<D>,
     before: u64,
@@ -151,48 +151,73 @@ fn end_day<D: Disk + Drop>(
     }
 }
 
-/// Lets the workers answer the messages of the message file over books that were opened, and makes the texts. The disk comes
-/// back; its count of faults was `before`.
-fn run_day<R: Wait + Threads + Sync, S: Source, D: Disk + Drop + Send, G: Gate + Sync>(
+/// The source, the disk and the texts of a day whose messages were served while the file was read, or why there are none: what the file
+/// stopped by is told first. The disk's count of faults was `before` at the opening, and the history then had `count` entries. The
+/// report is made in the memory of the file's text.
+fn end_day<S: Source + Drop, D: Disk + Drop>(
+    alloc: Global,
+    day: StreamedDay<S, D>,
+    before: u64,
+    count: u32,
+) -> (S, D, Result<Texts, Status>)
+    requires journal { IsJournal day.day.closed.accounts day.day.closed.history.entries }
+    requires places { IfOk day.day.served (λ made. (replies : List TheReply) → made.items ≡ are_replies replies → All (NamesPlace day.day.closed.history.entries) replies) }
+    requires few { (count ≤ length day.day.closed.history.entries) × IfOk day.day.served (λ made. length made.items ≤ most_messages) }
+    ensures source { result.0 ≡ day.file.source }
+    ensures disk { result.1 ≡ day.day.closed.disk }
+    ensures texts { GivesStream D.Disk day.day day.file.stage before count result.2 }
+{
+    let StreamedDay { day, file } = day;
+    let MessageFile {
+        source,
+        stage,
+        text,
+        ..
+    } = file;
+    if let Stage::Stopped(stop) = stage {
+        return (source, into_disk(day.closed), Err(Status::from(stop)));
+    }
+    let (disk, texts) = end_served(alloc, day, before, count, text);
+    (source, disk, texts)
+}
+
+/// Lets the workers answer the messages of the message file over books that were opened, while it is read, and makes the texts. The
+/// source and the disk come back; the disk's count of faults was `before`.
+fn run_day<R: Wait + Threads + Sync, S: Source + Drop, D: Disk + Drop + Send, G: Gate + Sync>(
     rt: &R,
     alloc: Global,
     directory: &Directory,
-    source: &mut S,
+    source: S,
     opened: Opened<D>,
     before: u64,
     workers: u32,
     entries: u32,
     gate: &G,
-) -> (D, Result<Texts, Status>)
+) -> (S, D, Result<Texts, Status>)
     requires instructions { AreInstructions directory.now.tables directory.now.ssi }
     requires workers { (1 ≤ workers) × (workers ≤ most_workers) }
     requires entries { (1 ≤ entries) × (entries ≤ most_batch) }
     requires journal { IsJournal opened.accounts opened.base }
     requires count { before ≡ opened.at_open }
-    ensures { GivesDay S.Source D.Disk directory.now workers entries source.old source.new opened result.0 result.1 }
+    ensures { GivesDay S.Source D.Disk directory.now workers entries source result.0 opened result.1 result.2 }
 {
-    let file = match read_file(alloc, source) {
-        Ok(file) => file,
-        Err(stop) => return (opened.into_disk(), Err(Status::from(stop))),
-    };
-    let messages = match cut_file(alloc, file.bytes()) {
-        Ok(messages) => messages,
-        Err(stop) => return (opened.into_disk(), Err(Status::from(stop))),
-    };
     let count = opened.history().len();
-    let messages = messages.into_vec();
-    match serve_all(
-        rt, alloc, directory, opened, workers, entries, messages, gate,
-    ) {
-        Ok(day) => end_day(alloc, day, before, count, file),
-        Err((disk, memory)) => (disk, Err(Status::from(memory))),
+    match serve_stream(rt, alloc, directory, source, opened, workers, entries, gate) {
+        Ok(day) => end_day(alloc, day, before, count),
+        Err((source, disk, memory)) => (source, disk, Err(Status::from(memory))),
     }
 }
 
 /// Reads the tables of banks, currencies, countries and instructions, opens the journal, and lets the workers enter the pays of
 /// the message file's messages on a day, with up to so many entries under one sync. The texts are the report, and the outgoing
 /// messages of the entries that were added.
-pub fn run<R: Wait + Threads + Sync, S: Source, K: Sink, D: Disk + Drop + Send, G: Gate + Sync>(
+pub fn run<
+    R: Wait + Threads + Sync,
+    S: Source + Drop,
+    K: Sink,
+    D: Disk + Drop + Send,
+    G: Gate + Sync,
+>(
     rt: &R,
     alloc: Global,
     day: Day,
@@ -221,11 +246,19 @@ pub fn run<R: Wait + Threads + Sync, S: Source, K: Sink, D: Disk + Drop + Send, 
             return (room, Err(Status::from(fault)));
         }
     };
-    let source = &mut room.messages;
-    let (disk, texts) = run_day(
-        rt, alloc, &directory, source, opened, before, workers, entries, gate,
+    let (source, disk, texts) = run_day(
+        rt,
+        alloc,
+        &directory,
+        room.messages,
+        opened,
+        before,
+        workers,
+        entries,
+        gate,
     );
     let_go(directory);
+    room.messages = source;
     room.disk = disk;
     (room, texts)
 }

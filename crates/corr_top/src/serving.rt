@@ -6,16 +6,20 @@ ghost use Rattle.jrn_book.specs.Journal.{IsJournal};
 ghost use Rattle.jrn_file.specs.File.{disk_of};
 ghost use Rattle.corr_books.specs.Opening.{IsNamed, opening_with, past_of};
 ghost use Rattle.work_pool.specs.Served.{most_workers};
-ghost use Rattle.corr_top.specs.Batching.{all_made};
+ghost use Rattle.corr_top.specs.inner.Batching.{all_made};
 ghost use Rattle.corr_top.specs.Message.{readings_of};
-ghost use Rattle.corr_top.specs.Serving.{AllServed};
+ghost use Rattle.corr_top.specs.inner.Serving.{AllServed};
+ghost use Rattle.corr_top.specs.inner.Streamed.{StreamServed};
 
-use crate::batching::{Made, put_all, share_of, share_out};
+use crate::batching::{Made, join_made, put_all, share_of, share_out};
 use crate::desk::{RunDesk, Served, seat, vacate};
 use crate::directory::Directory;
+use crate::feeding::{FileName, MessageFeed};
+use crate::stream::MessageFile;
 use crate::worker::Worker;
 use corr_books::{BooksName, Closed, Opened};
 use corr_disk::Disk;
+use corr_io::Source;
 use corr_text::Memory;
 use fin_frame::Framed;
 use front_word::Pass;
@@ -23,7 +27,7 @@ use std::alloc::Global;
 use std::marker::Brand;
 use std::sync::Wait;
 use std::thread::Threads;
-use work_pool::{Gate, run_jobs};
+use work_pool::{Gate, Streamed, run_feed, run_jobs};
 
 /// What is left when messages were served: the closed books, and what became of each message, in the order of the messages. Where
 /// `served` is `Memory`, none was served.
@@ -83,7 +87,7 @@ fn serve_named<
     opened: Opened<D>,
     workers: u32,
     entries: u32,
-    messages: &'a [Framed<'a>],
+    messages: &[Framed<'_>],
     gate: &G,
 ) -> Result<ServedDay<D>, (D, Memory)>
     requires named { IsNamed D.Disk N.opening N.past N.table opened workers }
@@ -158,5 +162,116 @@ pub fn serve_all<R: Wait + Threads + Sync, D: Disk + Drop + Send, G: Gate + Sync
         entries,
         messages.as_slice(),
         gate,
+    )
+}
+
+/// What is left when the messages of a file were served while it was read: the closed books, what became of each message that was given,
+/// in the order of the file, and the file. Where `served` is `Memory`, some may have been served.
+#[derive(Drop)]
+pub struct StreamedDay<S, D: Disk> {
+    pub day: ServedDay<D>,
+    pub file: MessageFile<S>,
+}
+
+/// How many batches wait for the workers at most.
+const DEPTH: u32 = 64;
+
+/// What `serve_stream` does, where `N` names the opening, and so many entries under one sync, and `F` the file.
+fn serve_fed<
+    N: BooksName + Send + Sync,
+    F: FileName,
+    R: Wait + Threads + Sync,
+    S: Source + Drop,
+    D: Disk + Drop + Send,
+    G: Gate + Sync,
+>(
+    rt: &R,
+    alloc: Global,
+    directory: &Directory,
+    source: S,
+    opened: Opened<D>,
+    workers: u32,
+    entries: u32,
+    gate: &G,
+) -> Result<StreamedDay<S, D>, (S, D, Memory)>
+    requires named { IsNamed D.Disk N.opening N.past N.table opened workers }
+    requires most { N.opening.most ≡ entries }
+    requires file { (F.left ≡ S.left source) × (F.faults ≡ S.faults source) }
+    requires entries { (1 ≤ entries) × (entries ≤ most_batch) }
+    requires journal { IsJournal opened.accounts opened.base }
+    requires count { (1 ≤ workers) × (workers ≤ most_workers) }
+    ensures served { IfOk result (λ s. StreamServed S.Source D.Disk (opening_with D.Disk opened workers entries) N.past (readings_of directory.now opened.accounts) source s) }
+    ensures err { IfErr result (λ e. (S.faults e.0 ≡ S.faults source) × (e.1 ≡ disk_of opened.file)) }
+{
+    let Ok(places) = make_places(alloc, workers, 0) else {
+        return Err((source, opened.into_disk(), Memory));
+    };
+    let feed = match MessageFeed::<N, F, S>::new(alloc, source, workers, entries) {
+        Ok(feed) => feed,
+        Err((source, memory)) => return Err((source, opened.into_disk(), memory)),
+    };
+    let (books, passes) = match opened.books::<N>(alloc, workers) {
+        Ok(made) => made,
+        Err((disk, memory)) => {
+            let MessageFile { source, .. } = feed.into_file();
+            return Err((source, disk, memory));
+        }
+    };
+    let Places {
+        workers: mut staff,
+        passes: mut back,
+        served: _,
+    } = places;
+    seat(alloc, &mut staff, passes);
+    let desk = RunDesk {
+        alloc,
+        directory,
+        books,
+    };
+    let Streamed {
+        passes,
+        feed,
+        replies,
+    } = run_feed(rt, alloc, &desk, staff, feed, DEPTH, gate);
+    let RunDesk { books, .. } = desk;
+    vacate(&mut back, passes);
+    let closed = match books.close(back) {
+        Ok(closed) => closed,
+        Err(_) => unreachable!(),
+    };
+    let served = join_made(alloc, replies);
+    Ok(StreamedDay {
+        day: ServedDay { closed, served },
+        file: feed.into_file(),
+    })
+}
+
+/// Lets 1 to 16 workers serve the messages of a file over the books of an opening while it is read, with up to so many entries under one
+/// sync, and closes the books.
+///
+/// Where there is no memory for the books or the first piece, the disk comes back as it was, and the source, of which nothing was read.
+pub fn serve_stream<
+    R: Wait + Threads + Sync,
+    S: Source + Drop,
+    D: Disk + Drop + Send,
+    G: Gate + Sync,
+>(
+    rt: &R,
+    alloc: Global,
+    directory: &Directory,
+    source: S,
+    opened: Opened<D>,
+    workers: u32,
+    entries: u32,
+    gate: &G,
+) -> Result<StreamedDay<S, D>, (S, D, Memory)>
+    requires count { (1 ≤ workers) × (workers ≤ most_workers) }
+    requires entries { (1 ≤ entries) × (entries ≤ most_batch) }
+    requires journal { IsJournal opened.accounts opened.base }
+    ensures served { IfOk result (λ s. StreamServed S.Source D.Disk (opening_with D.Disk opened workers entries) (past_of D.Disk opened) (readings_of directory.now opened.accounts) source s) }
+    ensures err { IfErr result (λ e. (S.faults e.0 ≡ S.faults source) × (e.1 ≡ disk_of opened.file)) }
+{
+    serve_fed::<Brand, Brand, _, _, _, _>(
+        rt, alloc, directory, source, opened, workers, entries, gate,
     )
 }

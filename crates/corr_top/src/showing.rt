@@ -1,4 +1,4 @@
-//! What the page says of each message: what a run would answer to it, with nothing booked.
+//! What the page says of each message: its verdict, its route and the entry under its reference, with nothing booked.
 
 ghost use Rattle.std.specs.Prelude.{◌≡◌, ◌≤◌, All, IfOk, IsSome, IsTrue, length};
 ghost use Rattle.corr_ids.specs.Day.{InCentury};
@@ -10,12 +10,12 @@ ghost use Rattle.fin_message.specs.declared.direction.Direction.TheVariants.{Rec
 ghost use Rattle.pay_plan.specs.Plan.{plan_of};
 ghost use Rattle.pay_plan.specs.Readable.{IsSomeReading};
 ghost use Rattle.ref_tables.specs.Seen.{few_decimals};
-ghost use Rattle.corr_top.specs.Asks.{unplaced};
+ghost use Rattle.corr_top.specs.inner.Asks.{unplaced};
 ghost use Rattle.corr_top.specs.Message.{message_reply, unrouted};
 ghost use Rattle.corr_top.specs.Shown.{cover_shown, row_of, rows_of, transfer_shown, valid_row};
 
 use crate::directory::Directory;
-use crate::message::{NoPay, find_accounts, reference};
+use crate::message::{reference, route_ask};
 use corr_disk::Disk;
 use corr_ids::Envelope;
 use corr_text::{Memory, Text, let_go};
@@ -25,7 +25,7 @@ use fin_message::{Message, MessageFault, verdict};
 use jrn_book::JrnBook;
 use mt103::Mt103;
 use mt202cov::Mt202Cov;
-use pay_plan::{Ask, pay_on};
+use pay_plan::Ask;
 use std::alloc::Global;
 
 /// What a transfer says.
@@ -80,14 +80,13 @@ fn stand<D: Disk>(
     ensures shown { IfOk result (IsShownStanding book.now.accounts) }
 {
     let accounts = book.accounts();
-    match find_accounts(directory, accounts, envelope, ask) {
-        Ok(charged) => {
-            let pay = pay_on(alloc, envelope, text, ask, &charged, accounts)?;
+    match route_ask(directory, accounts, envelope, text, ask) {
+        Ok(asking) => {
+            let pay = asking.pay(alloc, accounts)?;
             let place = book.place_of(&pay.mir);
             Ok(standing_for(accounts, book.history(), &pay, place))
         }
-        Err(NoPay::Unrouted { code, .. }) => Ok(Standing::Unrouted { code }),
-        Err(NoPay::Refused { .. }) => unreachable!(),
+        Err(code) => Ok(Standing::Unrouted { code }),
     }
 }
 

@@ -6,8 +6,9 @@ ghost use Rattle.corr_ids.specs.Day.{InCentury};
 ghost use Rattle.day_model.specs.Chart.{IsListed};
 ghost use Rattle.day_model.specs.Legal.{IsLegal};
 ghost use Rattle.statement.specs.Valid.{Prints};
-ghost use Rattle.corr_top.specs.Serving.{HasPayShape};
-ghost use Rattle.corr_top.specs.Statements.{Adds, AreStatements, IsStatementOfDay, MayPrint, owner_pages, sent_statements};
+ghost use Rattle.corr_top.specs.inner.Serving.{HasPayShape};
+ghost use Rattle.corr_top.specs.Statements.{AreStatements, IsStatementOfDay, owner_pages, sent_statements};
+ghost use Rattle.corr_top.specs.inner.Statements.{Adds, MayPrint};
 
 use crate::outgoing::push_parted;
 use crate::owners::Owners;

@@ -11,7 +11,7 @@ ghost use Rattle.ref_tables.specs.Tables.{bank_in_row, bics_fault, ccy_of, ccys_
 ghost use Rattle.ref_tables.specs.declared.fault.TableName.TheVariants as names;
 ghost use Rattle.ssi_versions.specs.InstructionList.{AreInstructions};
 ghost use Rattle.ssi_versions.specs.Rows.{instruction_of, ssi_fault};
-ghost use Rattle.corr_top.specs.Tables.{HasKnown, HasLent, StopsKnown, StopsLent};
+ghost use Rattle.corr_top.specs.inner.Tables.{HasKnown, HasLent, StopsKnown, StopsLent};
 ghost use Rattle.corr_top.specs.Passing.{Bad, IsFine, StopsAtTable};
 ghost use Rattle.corr_top.specs.Reading.{Took};
 
@@ -50,7 +50,7 @@ pub enum TableStop {
 }
 
 impl From<ReadStop> for TableStop {
-    ghost use Rattle.corr_top.specs.Stops.{table_stop_of_read};
+    ghost use Rattle.corr_top.specs.inner.Stops.{table_stop_of_read};
 
     ghost from_gives = { λ stop result. result ≡ table_stop_of_read stop };
 
@@ -63,7 +63,7 @@ impl From<ReadStop> for TableStop {
 }
 
 impl From<TableFault> for TableStop {
-    ghost use Rattle.corr_top.specs.Stops.{table_stop_of_fault};
+    ghost use Rattle.corr_top.specs.inner.Stops.{table_stop_of_fault};
 
     ghost from_gives = { λ fault stop. stop ≡ table_stop_of_fault fault };
 

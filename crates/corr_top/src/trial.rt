@@ -13,7 +13,8 @@ ghost use Rattle.work_pool.specs.Served.{most_workers};
 ghost use Rattle.corr_top.specs.MessageFile.{IsMessageFile, most_message_bytes};
 ghost use Rattle.corr_top.specs.OnDisk.{IsOnDisk};
 ghost use Rattle.corr_top.specs.Samples.{sample_day};
-ghost use Rattle.corr_top.specs.Trial.{AreSampleFiles, GivesTrial, IsBooked, IsNewDisk, IsBearable, IsTrial, IsWholeDay, ServesTrial, StaysWithin, supply_of, sample_chart, sample_directory};
+ghost use Rattle.corr_top.specs.Trial.{IsBooked, sample_chart, sample_directory};
+ghost use Rattle.corr_top.specs.inner.Trial.{AreSampleFiles, GivesTrial, IsNewDisk, IsBearable, IsTrial, IsWholeDay, ServesTrial, StaysWithin, supply_of};
 
 use crate::cutting::cut_file;
 use crate::directory::{Directory, read_directory};
@@ -25,6 +26,7 @@ use crate::samples::{
 };
 use crate::serving::{ServedDay, serve_all};
 use crate::status::Status;
+use crate::words::MOST_BATCH;
 use crate::writing::Texts;
 use corr_books::{Closed, Opened, open_books};
 use corr_disk::{Disk, MemDisk};
@@ -39,7 +41,7 @@ use std::thread::Threads;
 use work_pool::Gate;
 
 /// How many entries a trial writes together at most.
-const ENTRIES: u32 = 1024;
+const ENTRIES: u32 = MOST_BATCH as u32;
 
 /// A source of these bytes, which never fails.
 fn source(alloc: Global, bytes: &[u8]) -> Result<MemSource, Memory>

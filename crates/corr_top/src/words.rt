@@ -8,15 +8,18 @@ ghost use Rattle.day_model.specs.Log.{most_entries};
 ghost use Rattle.jrn_book.specs.Batches.{most_batch};
 ghost use Rattle.ref_tables.specs.Columns.{magnitude_of, signed_of};
 ghost use Rattle.work_pool.specs.Served.{most_workers};
-ghost use Rattle.corr_top.specs.Commands.{IsSpelled, balances_of, check_of, command_of, count_of, entries_of, generate_of, init_of, limits_of, mend_of, two_places, run_command, send_of, statements_of, trial_of, workers_of, place_of, return_command, two_numbers, ship_of, batch_command, batch_of, page_command};
+ghost use Rattle.corr_top.specs.Commands.{balances_of, check_of, command_of, count_of, entries_of, generate_of, init_of, limits_of, mend_of, two_places, run_command, send_of, statements_of, trial_of, workers_of, place_of, return_command, two_numbers, ship_of, batch_command, batch_of, page_command};
+ghost use Rattle.corr_top.specs.inner.Commands.{IsSpelled};
 ghost use Rattle.corr_top.specs.declared.account_words.AccountChange.TheVariants.{Open};
 ghost use Rattle.corr_top.specs.declared.words.Command.TheVariants.{Plain as CommandPlain};
 ghost use Rattle.corr_top.specs.declared.words.Plain.TheVariants.{Change as PlainChange};
 
 use crate::account_words::{AccountChange, AccountWords, Ends, Word};
+use crate::cutting::MESSAGE_LIMIT;
 use crate::owners::Owners;
 use corr_ids::{Bic, Day, day_from_yymmdd, read_bic};
 use corr_text::{Text, digits};
+use day_model::MOST_ENTRIES;
 
 /// What the words say.
 #[derive(Drop)]
@@ -86,19 +89,19 @@ pub enum Query {
 }
 
 /// The last place of a journal that is full.
-const LAST_PLACE: u64 = 100_000;
+const LAST_PLACE: u64 = MOST_ENTRIES as u64;
 
 /// The last record that a command can name.
 const LAST_RECORD: u64 = 1_000_000;
 
-/// The most messages of a generated day.
-const MOST_MESSAGES: u64 = 50_000;
+/// The most messages of a generated day, which is a message file.
+const MOST_MESSAGES: u64 = MESSAGE_LIMIT as u64;
 
 /// The most workers of a run.
 const MOST_WORKERS: u64 = 16;
 
 /// The most entries under one sync.
-const MOST_BATCH: u64 = 1024;
+pub(crate) const MOST_BATCH: u64 = 1024;
 
 /// Whether bytes are this word.
 fn is_word(b: &[u8], word: &[u8]) -> bool

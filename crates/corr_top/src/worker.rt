@@ -17,7 +17,7 @@ pub struct Worker {
 }
 
 impl Model for Worker {
-    ghost use Rattle.corr_top.specs.Workers.{Worker};
+    ghost use Rattle.corr_top.specs.inner.Workers.{Worker};
 
     ghost Value = { Worker };
 

@@ -1,7 +1,8 @@
 //! Texts, written whole to sinks.
 
 ghost use Rattle.std.specs.Prelude.{◌≡◌, [], OnOk, IfErr, IfOk};
-ghost use Rattle.corr_top.specs.Writing.{FailedAt, FailsWriting, IsWritten, Received};
+ghost use Rattle.corr_top.specs.Writing.{FailedAt, FailsWriting, Received};
+ghost use Rattle.corr_top.specs.inner.Writing.{IsWritten};
 
 use crate::slices::after;
 use crate::status::Status;

@@ -20,7 +20,7 @@ use Rattle.corr_top.specs.Steps.{Step, Walks}
 use Rattle.corr_top.specs.declared.room.Room.{Room}
 use Rattle.corr_top.specs.declared.room.Tables.{Tables}
 use Rattle.corr_top.specs.declared.status.Status.{Status}
-use Rattle.corr_top.specs.Promise.{AreBooks, Keeps, Told}
+use Rattle.corr_top.specs.promises.Books.{AreBooks, Keeps, Told}
 use Rattle.corr_top.proofs.Told.{same_accounts, same_chart, same_tables, small_table, took_all}
 use Rattle.corr_top.proofs.Walking.{contained, is_named, named_has}
 
@@ -37,7 +37,7 @@ pub record NamesKnown (list : List Step) : Type 0 where
   pub countries : is_named (Step.table names.Countries) list ≡ true
 
 module _ {S K D : Type 0} (source : sources.Ghosts S) (sink : sinks.Ghosts K) (disk : disks.Ghosts D) (old new : Room S K D) (s : Status) (j i : Inputs)
-    (steps done : List Step) (told : Told source sink disk old new s steps i) (passed : Walks (Passes source disk old new j) done) where
+    (steps done : List Step) (told : Told source old.tables steps i) (passed : Walks (Passes source disk old new j) done) where
   -- of steps that passed, the table of a name is the one that was told
   pub table_told : (name : TableName) → is_named (Step.table name) steps ≡ true → is_named (Step.table name) done ≡ true → table_file name j ≡ table_file name i
   table_told name named read =

@@ -17,7 +17,7 @@ use Rattle.corr_top.specs.Change.{change_steps}
 use Rattle.corr_top.specs.Changed.{lent_in, opened_by, row_fault, what_in, what_of, words_fault}
 use Rattle.corr_top.specs.Inputs.{Inputs}
 use Rattle.corr_top.specs.Passing.{Passes}
-use Rattle.corr_top.specs.Promise.{Keeps, Told}
+use Rattle.corr_top.specs.promises.Books.{Keeps, Told}
 use Rattle.corr_top.specs.Steps.{Step, Walks}
 use Rattle.corr_top.proofs.Told.{same_lent}
 use Rattle.corr_top.proofs.Walking.{ahead_of, is_named, named_has}
@@ -46,7 +46,7 @@ pub takes_none : (change : AccountChange) → is_named Step.take (change_steps c
 takes_none (Open words) = refl
 takes_none (Limit id ends) = refl
 
-pub enters_none : (change : AccountChange) → is_named Step.book (change_steps change) ≡ false
+pub enters_none : (change : AccountChange) → is_named Step.serve (change_steps change) ≡ false
 enters_none (Open words) = refl
 enters_none (Limit id ends) = refl
 
@@ -56,7 +56,7 @@ opens_first (Limit id ends) = refl
 
 module _ {S K D : Type 0} (source : sources.Ghosts S) (sink : sinks.Ghosts K) (disk : disks.Ghosts D) (old new : Room S K D) (s : Status) (i j : Inputs) where
   -- what is changed is what was told to change
-  told_what : (change : AccountChange) → Told source sink disk old new s (change_steps change) i → Walks (Passes source disk old new j) (first_steps change)
+  told_what : (change : AccountChange) → Told source old.tables (change_steps change) i → Walks (Passes source disk old new j) (first_steps change)
       → what_in i.chart (lent_in j) change ≡ what_in i.chart (lent_in i) change
   told_what (Open words) told passed =
       let steps = change_steps (Open words) in
@@ -66,7 +66,7 @@ module _ {S K D : Type 0} (source : sources.Ghosts S) (sink : sinks.Ghosts K) (d
   told_what (Limit id ends) told passed = refl
 
   -- so is the fault of its row
-  told_row : (change : AccountChange) → Told source sink disk old new s (change_steps change) i → Walks (Passes source disk old new j) (first_steps change)
+  told_row : (change : AccountChange) → Told source old.tables (change_steps change) i → Walks (Passes source disk old new j) (first_steps change)
       → row_fault i.chart (lent_in j) change ≡ row_fault i.chart (lent_in i) change
   told_row (Open words) told passed =
       let steps = change_steps (Open words) in
@@ -81,7 +81,7 @@ module _ {S K D : Type 0} (source : sources.Ghosts S) (sink : sinks.Ghosts K) (d
     row : row_fault j.chart (lent_in j) j.change ≡ row_fault i.chart (lent_in i) i.change
     what : what_of j ≡ what_of i
 
-  pub reached : j.change ≡ i.change → Told source sink disk old new s (change_steps i.change) i → Keeps disk old.disk i.chart i.history
+  pub reached : j.change ≡ i.change → Told source old.tables (change_steps i.change) i → Keeps disk old.disk i.chart i.history
       → Walks (Passes source disk old new j) (first_steps i.change) → Reached
   reached asked told kept passed =
       let books = same_books disk old.disk j i.chart i.history (named_has (Passes source disk old new j) Step.open_journal (first_steps i.change) (opens_first i.change) passed) kept in

@@ -1,21 +1,17 @@
 -- The promise of `open-account` and `set-limits`.
-use Rattle.std.proofs.Common.{◌≡◌, List, Option, true, false, inl, inr, refl, sym, ap, ◌∙◌, subst}
+use Rattle.std.proofs.Common.{◌≡◌, Option, inl, inr, refl, sym, ap, ◌∙◌, subst}
 use mathlib.Core.Bool.{true≢false}
 use Rattle.std.specs.Prelude.{IsTrue}
 use Rattle.corr_disk.specs.declared.disk.Disk as disks
 use Rattle.corr_io.specs.declared.sink.Sink as sinks
 use Rattle.corr_io.specs.declared.source.Source as sources
 use Rattle.corr_text.specs.Faults.{Rose}
-use Rattle.day_model.specs.Chart.{Chart}
-use Rattle.day_model.specs.declared.change.What.{What}
-use Rattle.day_model.specs.declared.entry.Entry.{Entry}
 use Rattle.jrn_book.specs.declared.changing.ChangeFault.{ChangeFault}
 use Rattle.jrn_book.specs.declared.changing.ChangeFault.TheVariants as changing
 use Rattle.jrn_book.specs.Journal.{IsBeforeOrChanged}
 use Rattle.ref_tables.specs.declared.fault.Why.{Why}
 use Rattle.corr_top.specs.declared.room.Room.{Room}
 use Rattle.corr_top.specs.declared.status.Status.{Status}
-use Rattle.corr_top.specs.declared.status.Status.TheVariants.{Memory}
 use Rattle.corr_top.specs.declared.words.Command.TheVariants.{Plain}
 use Rattle.corr_top.specs.declared.words.Plain.TheVariants.{Change}
 use Rattle.corr_top.specs.Change.{change_meaning, change_steps}
@@ -25,7 +21,8 @@ use Rattle.corr_top.specs.Ends.{Ends, HasPassed}
 use Rattle.corr_top.specs.Inputs.{Inputs}
 use Rattle.corr_top.specs.OnDisk.{IsUnwritten}
 use Rattle.corr_top.specs.Passing.{Passes, StepIsUntouched, StopsAt}
-use Rattle.corr_top.specs.Promise.{AtEachMoment, ChangePromise, Keeps, Told, writes}
+use Rattle.corr_top.specs.promises.Accounts.{ChangePromise}
+use Rattle.corr_top.specs.promises.Books.{AtEachMoment, Keeps, Told, writes}
 use Rattle.corr_top.specs.Steps.{Halts, Step, Walks}
 use Rattle.corr_top.proofs.FaultCounts.{tells_rose}
 use Rattle.corr_top.proofs.Walking.{walks_ahead}
@@ -42,7 +39,7 @@ module _ {S K D : Type 0} (source : sources.Ghosts S) (sink : sinks.Ghosts K) (d
   unwritten_all unwritten = unwritten_keeps disk old.disk new.disk i.chart i.history honest unwritten kept
 
   abbrev Moments : Type 0
-  Moments = AtEachMoment source sink disk old new s (IsBeforeOrChanged i.chart i.history (what_of i))
+  Moments = AtEachMoment disk old.disk new.disk (IsBeforeOrChanged i.chart i.history (what_of i))
 
   moments_unwritten : IsUnwritten disk old.disk new.disk → Moments
   moments_unwritten unwritten = λ image left. inl ((unwritten_all unwritten).moments image left)
@@ -85,7 +82,7 @@ module _ {S K D : Type 0} (source : sources.Ghosts S) (sink : sinks.Ghosts K) (d
     ]
   ]
 
-  module _ (told : Told source sink disk old new s (change_steps i.change) i) (j : Inputs) (asked : j.change ≡ i.change) where
+  module _ (told : Told source old.tables (change_steps i.change) i) (j : Inputs) (asked : j.change ≡ i.change) where
     reach : Walks (Passes source disk old new j) (first_steps i.change) → Reached source sink disk old new s i j
     reach passed = reached source sink disk old new s i j asked told kept passed
 
@@ -114,7 +111,7 @@ module _ {S K D : Type 0} (source : sources.Ghosts S) (sink : sinks.Ghosts K) (d
       ]
     ]
 
-  pub change_promise : Ends source disk (meaning_of (Plain (Change i.change))) old new sink s → Told source sink disk old new s (change_steps i.change) i → ChangePromise source sink disk old new s i
+  pub change_promise : Ends source disk (meaning_of (Plain (Change i.change))) old new sink s → Told source old.tables (change_steps i.change) i → ChangePromise source disk old new s i
   unfolding meaning_of
   change_promise ended told =
       let j = ended.inputs in

@@ -26,7 +26,7 @@ use Rattle.corr_top.specs.Query.{QuerySends, query_meaning, query_out, query_rep
 use Rattle.corr_top.specs.Steps.{Halts, Step}
 use Rattle.corr_top.specs.Trial.{BooksEach, trial_meaning, trial_report}
 use Rattle.corr_top.specs.Writing.{FailsWriting}
-use Rattle.corr_top.specs.Promise.{Keeps, Wrote, writes}
+use Rattle.corr_top.specs.promises.Books.{Keeps, Wrote, writes}
 use Rattle.corr_top.proofs.Stopping.{halts_stop, stopped}
 use Rattle.corr_top.proofs.Walking.{named_has}
 use Rattle.corr_top.proofs.promise.Agreeing.{same_books}

@@ -32,12 +32,13 @@ use Rattle.corr_top.specs.Followed.{ArePackets, HasPackets, HasTaken, HoldsRecor
 use Rattle.corr_top.specs.Inputs.{Inputs}
 use Rattle.corr_top.specs.MessageFile.{most_message_bytes}
 use Rattle.corr_top.specs.OnDisk.{IsUnwritten}
-use Rattle.corr_top.specs.Promise.{AtEachMoment, FollowPromise, Holds, IsNotTaken, KeepsHeld, RefusesOne, TakesAll, Wrote, may_take, refuses_packet}
+use Rattle.corr_top.specs.promises.Books.{AtEachMoment, Wrote}
+use Rattle.corr_top.specs.promises.Standby.{FollowPromise, Holds, IsNotTaken, KeepsHeld, RefusesOne, TakesAll, may_take, refuses_packet}
 use Rattle.corr_top.specs.Stops.{status_of_file, status_of_opening, status_of_taking}
 use Rattle.corr_top.proofs.FollowedDisk.{same_held, whole}
 use Rattle.corr_top.proofs.Told.{took_all}
 use Rattle.corr_top.proofs.promise.Agreeing.{sound_books}
-use Rattle.corr_top.proofs.promise.Finished.{came, finished}
+use Rattle.corr_top.proofs.promise.Finished.{finished}
 use Rattle.corr_top.proofs.promise.Standing.{stands_other}
 
 -- ---- what is held
@@ -189,12 +190,12 @@ module _ {S K D : Type 0} (source : sources.Ghosts S) (sink : sinks.Ghosts K) (d
         subst (λ (l : List ℕ). ArePackets l j.packets) (took_all source.left source.faults most_message_bytes old.received new.received j.messages bytes told had.file.short had.file.took) had.are
 
     at_turn : HoldsRecords disk old.disk j.held → HasPackets source old.received new.received j.messages j.packets → TakesInTurn disk old.disk new.disk j.held j.packets
-        → LeavesRecords disk old.disk held → AtEachMoment source sink disk old new s (IsHeldOrTaken bytes held)
+        → LeavesRecords disk old.disk held → AtEachMoment disk old.disk new.disk (IsHeldOrTaken bytes held)
     at_turn begun had turn alone = λ image left.
         let run = subst (λ (h : Held). TakesInTurn disk old.disk new.disk h j.packets) (same begun) turn in
         inr (j.packets, of_file had, (run holds.told alone).each image left)
 
-    at_each : Came j → LeavesRecords disk old.disk held → AtEachMoment source sink disk old new s (IsHeldOrTaken bytes held)
+    at_each : Came j → LeavesRecords disk old.disk held → AtEachMoment disk old.disk new.disk (IsHeldOrTaken bytes held)
     at_each (inl (all, quiet)) alone = at_turn all.begun all.had all.taken.any_moment alone
     at_each (inr (inl none)) alone = λ image left. inl (alone image (none.unwritten.any_moment.each image left))
     at_each (inr (inr some)) alone = at_turn some.begun some.had some.stops.3.any_moment alone

@@ -23,7 +23,7 @@ use Rattle.corr_top.specs.declared.status.Status.{Status}
 use Rattle.corr_top.specs.declared.words.Command.{Command}
 use Rattle.corr_top.specs.declared.words.Command.TheVariants.{Run, Trial, Plain, Return}
 use Rattle.corr_top.specs.declared.words.Plain.TheVariants.{Change, Follow, Generate, Init, Mend, Migrate, Query, Reconcile, Check, Page}
-use Rattle.corr_top.specs.Promise.{Keeps}
+use Rattle.corr_top.specs.promises.Books.{Keeps}
 use Rattle.corr_top.proofs.Journals.{same_unwritten}
 use Rattle.corr_top.proofs.Walking.{is_named, named_has}
 use Rattle.corr_top.proofs.promise.Finished.{came}
@@ -37,7 +37,7 @@ module _ {S K D : Type 0} (source : sources.Ghosts S) (sink : sinks.Ghosts K) (d
 
   -- a command that neither makes a journal, nor enters pays or a return, nor changes accounts, nor takes packets, and writes nothing where it comes to its end
   reads_only : (m : Meaning) (ended : Ends source disk m old new sink s) → (HasPassed source disk m old new ended.inputs → IsUnwritten disk old.disk new.disk)
-      → are_told m.steps ≡ true → is_named Step.make m.steps ≡ false → is_named Step.book m.steps ≡ false → is_named Step.change m.steps ≡ false → is_named Step.book_return m.steps ≡ false → is_named Step.take m.steps ≡ false → KeepsAll disk old.disk new.disk chart books
+      → are_told m.steps ≡ true → is_named Step.make m.steps ≡ false → is_named Step.serve m.steps ≡ false → is_named Step.change m.steps ≡ false → is_named Step.book_return m.steps ≡ false → is_named Step.take m.steps ≡ false → KeepsAll disk old.disk new.disk chart books
   reads_only m ended at_end told no_make no_book no_change no_return no_take = by_unwritten (elim (came source sink disk old new s m ended) [
     | inl passed ↦ at_end passed
     | inr halted ↦ stops_unwritten source disk old new ended.inputs s only m.steps told no_make no_book no_change no_return no_take halted.halts

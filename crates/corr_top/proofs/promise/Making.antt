@@ -17,7 +17,7 @@ use Rattle.corr_top.specs.declared.room.Room.{Room}
 use Rattle.corr_top.specs.declared.status.Status.{Status}
 use Rattle.corr_top.specs.declared.words.Command.TheVariants.{Plain}
 use Rattle.corr_top.specs.declared.words.Plain.TheVariants.{Init}
-use Rattle.corr_top.specs.Promise.{AtEachMoment, Told}
+use Rattle.corr_top.specs.promises.Books.{AtEachMoment, Told}
 use Rattle.corr_top.specs.Init.{init_meaning, init_steps}
 use Rattle.corr_top.specs.Steps.{Step, Walks}
 use Rattle.corr_top.proofs.Walking.{ahead_of, walks_ahead}
@@ -27,9 +27,9 @@ use Rattle.corr_top.proofs.promise.Untouched.{OnlyNow, stops_somewhere}
 
 module _ {S K D : Type 0} (source : sources.Ghosts S) (sink : sinks.Ghosts K) (disk : disks.Ghosts D) (old new : Room S K D) (s : Status) (i : Inputs) where
   -- a law of disks, and what was told
-  pub made_promise : OnlyNow disk → Ends source disk (meaning_of (Plain (Init i.home))) old new sink s → Told source sink disk old new s init_steps i
+  pub made_promise : OnlyNow disk → Ends source disk (meaning_of (Plain (Init i.home))) old new sink s → Told source old.tables init_steps i
       → IsTrue (disk.honest old.disk) → Only (disk.reads old.disk) (disk.may_leave old.disk) → IsUnmade (disk.reads old.disk)
-      → AtEachMoment source sink disk old new s (λ image. IsUnmade image ⊎ StandsForBook image (chart_in i) [])
+      → AtEachMoment disk old.disk new.disk (λ image. IsUnmade image ⊎ StandsForBook image (chart_in i) [])
   unfolding meaning_of
   made_promise now ended told sure only unmade image left =
       let j = ended.inputs in

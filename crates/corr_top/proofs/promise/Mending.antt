@@ -12,7 +12,7 @@ use Rattle.corr_top.specs.Ends.{Ends}
 use Rattle.corr_top.specs.Mend.{mend_meaning, mend_steps, mended_out}
 use Rattle.corr_top.specs.Out.{sent_from}
 use Rattle.corr_top.specs.Passing.{Passes, most_sent_bytes}
-use Rattle.corr_top.specs.Promise.{Keeps, Wrote, writes}
+use Rattle.corr_top.specs.promises.Books.{Keeps, Wrote, writes}
 use Rattle.corr_top.specs.Steps.{Step}
 use Rattle.corr_top.specs.declared.room.Room.{Room}
 use Rattle.corr_top.specs.declared.status.Status.{Status}

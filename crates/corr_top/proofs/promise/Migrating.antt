@@ -1,5 +1,5 @@
 -- The promise of `migrate`.
-use Rattle.std.proofs.Common.{◌≡◌, ◌⊎◌, ℕ, Bool, List, length, Option, Some, None, true, false, inl, inr, refl, sym, ap, ◌∙◌, subst}
+use Rattle.std.proofs.Common.{◌≡◌, ◌⊎◌, ℕ, Bool, List, length, Option, Some, None, false, inl, inr, refl, sym, ap, ◌∙◌, subst}
 use mathlib.Core.Bool.{true≢false}
 use Rattle.std.specs.Prelude.{IsTrue}
 use Rattle.std.specs.Option.{option_map}
@@ -30,8 +30,9 @@ use Rattle.corr_top.specs.Inputs.{Inputs}
 use Rattle.corr_top.specs.Migrate.{migrate_meaning, migrate_steps}
 use Rattle.corr_top.specs.OnDisk.{IsUnwritten}
 use Rattle.corr_top.specs.Passing.{Passes, StepIsUntouched, StopsAt}
-use Rattle.corr_top.specs.Promise.{IsOldBooks, Keeps, MigratePromise, writes}
-use Rattle.corr_top.specs.Steps.{Halts, Step, Walks}
+use Rattle.corr_top.specs.promises.Accounts.{IsOldBooks, MigratePromise}
+use Rattle.corr_top.specs.promises.Books.{Keeps, writes}
+use Rattle.corr_top.specs.Steps.{Halts}
 use Rattle.corr_top.specs.Stops.{status_of_copying}
 use Rattle.corr_top.proofs.FaultCounts.{tells_rose}
 use Rattle.corr_top.proofs.Journals.{same_unwritten}
@@ -90,10 +91,10 @@ module _ {D : Type 0} (disk : disks.Ghosts D) (only : OnlyNow disk) where
 module _ {S K D : Type 0} (source : sources.Ghosts S) (sink : sinks.Ghosts K) (disk : disks.Ghosts D) (old new : Room S K D) (s : Status) (only : OnlyNow disk) where
   module _ (j : Inputs) where
     -- the books that were opened are those that the disk had
-    same_old : (chart : Chart) (books : List Entry) → HoldsOld disk old.disk j.chart j.history → IsOldBooks source sink disk old new s chart books → book j.chart j.history ≡ book chart books
+    same_old : (chart : Chart) (books : List Entry) → HoldsOld disk old.disk j.chart j.history → IsOldBooks disk old.disk chart books → book j.chart j.history ≡ book chart books
     same_old chart books holds is = one_finding_in One (opened_of (disk.reads old.disk)) (book j.chart j.history) (book chart books) (holds.journal, holds.stands is.told) (is.journal, is.reads)
 
-    on_told : (P : Chart → List Entry → Type 0) (chart : Chart) (books : List Entry) → HoldsOld disk old.disk j.chart j.history → IsOldBooks source sink disk old new s chart books → P j.chart j.history → P chart books
+    on_told : (P : Chart → List Entry → Type 0) (chart : Chart) (books : List Entry) → HoldsOld disk old.disk j.chart j.history → IsOldBooks disk old.disk chart books → P j.chart j.history → P chart books
     on_told P chart books holds is here =
         let same = same_old chart books holds is in
         let charts : j.chart ≡ chart = cc (same) in
@@ -131,7 +132,7 @@ module _ {S K D : Type 0} (source : sources.Ghosts S) (sink : sinks.Ghosts K) (d
     | inr halted ↦ elim (how ended.inputs halted.halts) [ inl same ↦ inl same | inr stop ↦ inr (inr stop) ]
   ]
 
-  module _ (chart : Chart) (books : List Entry) (is : IsOldBooks source sink disk old new s chart books) (from to : D) (first : old.disk2 ≡ Some from) (second : new.disk2 ≡ Some to)
+  module _ (chart : Chart) (books : List Entry) (is : IsOldBooks disk old.disk chart books) (from to : D) (first : old.disk2 ≡ Some from) (second : new.disk2 ≡ Some to)
       (told : IsTrue (disk.honest from)) (alone : Only (disk.reads from) (disk.may_leave from)) (unmade : IsUnmade (disk.reads from)) where
     moments : (j : Inputs) → SecondIs j → InTurn disk only from to chart books
     moments j (inl same) = still disk only from to chart books (unwritten_second disk only old.disk2 new.disk2 from to first second same) alone unmade
@@ -153,7 +154,7 @@ module _ {S K D : Type 0} (source : sources.Ghosts S) (sink : sinks.Ghosts K) (d
         let at = on_some disk only (λ a b. StopsCopying disk a b j.chart j.history stop.stop) old.disk2 new.disk2 from was stop.stops in
         (at.0, at.1, at.2.untouched first told is)
 
-  done_with : (j : Inputs) (chart : Chart) (books : List Entry) → HasPassed source disk migrate_meaning old new j → IsOldBooks source sink disk old new s chart books
+  done_with : (j : Inputs) (chart : Chart) (books : List Entry) → HasPassed source disk migrate_meaning old new j → IsOldBooks disk old.disk chart books
       → OnSecond (λ from to. IsTrue (disk.honest from) → Keeps disk to chart books) old.disk2 new.disk2
   done_with j chart books passed is =
       let p = passed.passed in
@@ -200,7 +201,7 @@ module _ {S K D : Type 0} (source : sources.Ghosts S) (sink : sinks.Ghosts K) (d
     | inr halted ↦ stops_unwritten source disk old new ended.inputs s only migrate_steps refl refl refl refl refl refl halted.halts
   ]
 
-  pub migrate_promise : Ends source disk (meaning_of (Plain Migrate)) old new sink s → MigratePromise source sink disk old new s
+  pub migrate_promise : Ends source disk (meaning_of (Plain Migrate)) old new sink s → MigratePromise source disk old new s
   unfolding meaning_of
   migrate_promise ended = record {
     unwritten = unwritten ended;

@@ -1,5 +1,5 @@
 -- A payment that isn't taken back: the first reason against it, and the books are as they were.
-use Rattle.std.proofs.Common.{◌≡◌, ◌⊎◌, ℕ, List, [], ◌∷◌, ◌++◌, true, false, inl, inr, refl, sym, ap, ◌∙◌, subst, append-nil, length}
+use Rattle.std.proofs.Common.{◌≡◌, ℕ, List, [], ◌∷◌, ◌++◌, true, false, inl, inr, refl, sym, ap, ◌∙◌, subst, append-nil, length}
 use mathlib.Core.Bool.{true≢false}
 use Rattle.std.specs.Prelude.{IsTrue}
 use Rattle.std.proofs.lemmas.Bool.{cond-true}
@@ -21,7 +21,7 @@ use Rattle.corr_top.specs.Ends.{Ends}
 use Rattle.corr_top.specs.Inputs.{Inputs}
 use Rattle.corr_top.specs.OnDisk.{IsUnwritten}
 use Rattle.corr_top.specs.Passing.{Passes, StepIsUntouched, StopsAt}
-use Rattle.corr_top.specs.Promise.{Keeps, writes}
+use Rattle.corr_top.specs.promises.Books.{Keeps, writes}
 use Rattle.corr_top.specs.Return.{return_meaning, return_steps}
 use Rattle.corr_top.specs.Returned.{IsNotTakenBack}
 use Rattle.corr_top.specs.Steps.{Halts, Step}

@@ -1,5 +1,5 @@
 -- The promise of `page`.
-use Rattle.std.proofs.Common.{◌≡◌, ℕ, List, [], true, refl, ap, ◌∙◌, subst}
+use Rattle.std.proofs.Common.{◌≡◌, ℕ, List, [], true, refl, subst}
 use Rattle.std.specs.Prelude.{Some}
 use Rattle.corr_disk.specs.declared.disk.Disk as disks
 use Rattle.corr_ids.specs.declared.day.Day.{Day}
@@ -20,7 +20,8 @@ use Rattle.corr_top.specs.Inputs.{Inputs, directory_in}
 use Rattle.corr_top.specs.MessageFile.{IsMessageFile}
 use Rattle.corr_top.specs.Page.{day_page, page_meaning, page_report, page_steps}
 use Rattle.corr_top.specs.Passing.{Passes, table_file}
-use Rattle.corr_top.specs.Promise.{Keeps, PagePromise, Told, Wrote, writes}
+use Rattle.corr_top.specs.promises.Books.{Keeps, Told, Wrote, writes}
+use Rattle.corr_top.specs.promises.Desk.{PagePromise}
 use Rattle.corr_top.specs.Steps.{Step}
 use Rattle.corr_top.proofs.Told.{same_directory, took_all}
 use Rattle.corr_top.proofs.Walking.{is_named, named_has}
@@ -28,8 +29,8 @@ use Rattle.corr_top.proofs.promise.Agreeing.{known_told, same_books, table_told}
 use Rattle.corr_top.proofs.promise.Finished.{finished}
 
 module _ {S K D : Type 0} (source : sources.Ghosts S) (sink : sinks.Ghosts K) (disk : disks.Ghosts D) (old new : Room S K D) (s : Status) where
-  pub page_promise : (i : Inputs) → Ends source disk (meaning_of (Plain (Page i.day))) old new sink s → Told source sink disk old new s page_steps i
-      → source.left old.messages ≡ Some i.messages → Keeps disk old.disk i.chart i.history → writes s ≡ true → PagePromise source sink disk old new s i
+  pub page_promise : (i : Inputs) → Ends source disk (meaning_of (Plain (Page i.day))) old new sink s → Told source old.tables page_steps i
+      → source.left old.messages ≡ Some i.messages → Keeps disk old.disk i.chart i.history → writes s ≡ true → PagePromise sink old new s i
   unfolding meaning_of page_report
   page_promise i ended told messages kept some =
       let j = ended.inputs in

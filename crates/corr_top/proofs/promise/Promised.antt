@@ -16,6 +16,7 @@ use Rattle.corr_top.proofs.promise.Changing.{change_promise}
 use Rattle.corr_top.proofs.promise.Finished.{generate_promise, query_promise, silent, trial_promise}
 use Rattle.corr_top.proofs.promise.Following.{follow_promise}
 use Rattle.corr_top.proofs.promise.Kept.{all_keep}
+use Rattle.corr_top.proofs.promise.Last.{CountsNow}
 use Rattle.corr_top.proofs.promise.Making.{made_promise}
 use Rattle.corr_top.proofs.promise.Mending.{mend_promise}
 use Rattle.corr_top.proofs.promise.Migrating.{migrate_promise}
@@ -26,14 +27,14 @@ use Rattle.corr_top.proofs.promise.Running.{run_promise}
 use Rattle.corr_top.proofs.promise.Untouched.{OnlyNow}
 
 pub promised : {S K D : Type 0} (source : sources.Ghosts S) (sink : sinks.Ghosts K) (disk : disks.Ghosts D) (command : Command) (old new : Room S K D) (s : Status)
-    → OnlyNow disk → disk.honest new.disk ≡ disk.honest old.disk → Ends source disk (meaning_of command) old new sink s
+    → OnlyNow disk → CountsNow disk → disk.honest new.disk ≡ disk.honest old.disk → Ends source disk (meaning_of command) old new sink s
     → Promises source sink disk old new s command
-promised source sink disk command old new s only honest ended =
+promised source sink disk command old new s only counts honest ended =
     let of : (c : Command) → command ≡ c → Ends source disk (meaning_of c) old new sink s = λ c is. subst (λ (x : Command). Ends source disk (meaning_of x) old new sink s) is ended in
     record {
       keeps = λ chart books kept no_run no_change no_return no_follow. let all = all_keep source sink disk old new s chart books only honest kept command ended no_run no_change no_return no_follow in (all.kept, all.moments);
-      run = λ i is told messages kept. run_promise source sink disk old new s i only honest told messages kept (of _ is);
-      returned = λ i is kept. return_promise source sink disk old new s i only honest kept (of _ is);
+      run = λ i is told messages kept. run_promise source sink disk old new s i only counts honest told messages kept (of _ is);
+      returned = λ i is kept. return_promise source sink disk old new s i only counts honest kept (of _ is);
       change = λ i is told kept. change_promise source sink disk old new s i only honest kept (of _ is) told;
       migrate = λ is. migrate_promise source sink disk old new s only (of _ is);
       follow = λ is. follow_promise source sink disk old new s honest (of _ is);
@@ -56,6 +57,6 @@ promised source sink disk command old new s only honest ended =
 
 -- the same where the words may name no command
 pub promised_if : {S K D X : Type 0} (source : sources.Ghosts S) (sink : sinks.Ghosts K) (disk : disks.Ghosts D) (make : X → Command) (named : Option X) (old new : Room S K D) (s : Status)
-    → OnlyNow disk → disk.honest new.disk ≡ disk.honest old.disk
+    → OnlyNow disk → CountsNow disk → disk.honest new.disk ≡ disk.honest old.disk
     → IfSome named (λ x. Ends source disk (meaning_of (make x)) old new sink s) → IfSome named (λ x. Promises source sink disk old new s (make x))
-promised_if source sink disk make named old new s only honest ended = IfSome_then named ended (λ x is. promised source sink disk (make x) old new s only honest is)
+promised_if source sink disk make named old new s only counts honest ended = IfSome_then named ended (λ x is. promised source sink disk (make x) old new s only counts honest is)

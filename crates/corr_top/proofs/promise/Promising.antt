@@ -21,7 +21,9 @@ use Rattle.corr_top.specs.declared.room.Room.{Room}
 use Rattle.corr_top.specs.declared.status.Status.{Status}
 use Rattle.corr_top.specs.declared.words.Command.TheVariants.{Plain}
 use Rattle.corr_top.specs.declared.words.Plain.TheVariants.{Check, Init, Reconcile}
-use Rattle.corr_top.specs.Promise.{CheckPromise, Keeps, ReconcilePromise, Told, Wrote, writes}
+use Rattle.corr_top.specs.promises.Books.{Keeps, Told, Wrote, writes}
+use Rattle.corr_top.specs.promises.Desk.{CheckPromise}
+use Rattle.corr_top.specs.promises.Reconciling.{ReconcilePromise}
 use Rattle.corr_top.specs.Init.{init_meaning, init_steps}
 use Rattle.corr_top.specs.Steps.{Step}
 use Rattle.corr_top.proofs.Told.{took_all}
@@ -30,8 +32,8 @@ use Rattle.corr_top.proofs.promise.Agreeing.{chart_told, known_told, same_books,
 use Rattle.corr_top.proofs.promise.Finished.{finished}
 
 module _ {S K D : Type 0} (source : sources.Ghosts S) (sink : sinks.Ghosts K) (disk : disks.Ghosts D) (old new : Room S K D) (s : Status) where
-  pub reconcile_promise : (i : Inputs) → Ends source disk (meaning_of (Plain Reconcile)) old new sink s → Told source sink disk old new s reconcile_steps i
-      → source.left old.received ≡ Some i.messages → Keeps disk old.disk i.chart i.history → writes s ≡ true → ReconcilePromise source sink disk old new s i
+  pub reconcile_promise : (i : Inputs) → Ends source disk (meaning_of (Plain Reconcile)) old new sink s → Told source old.tables reconcile_steps i
+      → source.left old.received ≡ Some i.messages → Keeps disk old.disk i.chart i.history → writes s ≡ true → ReconcilePromise sink old new s i
   unfolding meaning_of reconcile_report
   reconcile_promise i ended told received kept some =
       let j = ended.inputs in
@@ -53,8 +55,8 @@ module _ {S K D : Type 0} (source : sources.Ghosts S) (sink : sinks.Ghosts K) (d
         rule = λ n t is. (takes-first i.chart i.history n t kept.sound.journal.legal, stand-once i.chart i.history n t kept.sound.journal.legal, adds-up i.chart i.history n t kept.sound.journal.legal is);
       }
 
-  pub check_promise : (i : Inputs) → Ends source disk (meaning_of (Plain (Check i.home))) old new sink s → Told source sink disk old new s check_steps i
-      → source.left old.messages ≡ Some i.messages → writes s ≡ true → CheckPromise source sink disk old new s i
+  pub check_promise : (i : Inputs) → Ends source disk (meaning_of (Plain (Check i.home))) old new sink s → Told source old.tables check_steps i
+      → source.left old.messages ≡ Some i.messages → writes s ≡ true → CheckPromise sink old new s i
   unfolding meaning_of check_report
   check_promise i ended told messages some =
       let j = ended.inputs in
@@ -75,7 +77,7 @@ module _ {S K D : Type 0} (source : sources.Ghosts S) (sink : sinks.Ghosts K) (d
       }
 
   pub init_promise : (i : Inputs) → disk.honest new.disk ≡ disk.honest old.disk → Ends source disk (meaning_of (Plain (Init i.home))) old new sink s
-      → Told source sink disk old new s init_steps i → IsTrue (disk.honest old.disk) → writes s ≡ true → Keeps disk new.disk (chart_in i) []
+      → Told source old.tables init_steps i → IsTrue (disk.honest old.disk) → writes s ≡ true → Keeps disk new.disk (chart_in i) []
   unfolding meaning_of
   init_promise i honest ended told sure some =
       let j = ended.inputs in

@@ -1,5 +1,5 @@
 -- Why a change of the accounts is refused: the first reason against it, where its tables are right.
-use Rattle.std.proofs.Common.{◌≡◌, ◌⊎◌, ℕ, ◌+◌, ◌-◌, ◌<◌, List, length, Option, Some, None, true, false, inl, inr, refl, sym, ap, ◌∙◌, subst}
+use Rattle.std.proofs.Common.{◌≡◌, ℕ, ◌+◌, ◌-◌, ◌<◌, List, length, Option, Some, None, false, inl, inr, refl, sym, ap, ◌∙◌, subst}
 use mathlib.Core.Bool.{true≢false}
 use Rattle.std.specs.List.{Contains}
 use Rattle.corr_disk.specs.Disk.{most_disk_bytes}
@@ -30,7 +30,8 @@ use Rattle.corr_top.specs.Changed.{IsRefusedFor, StopsChanging, lent_in, row_fau
 use Rattle.corr_top.specs.Ends.{Ends}
 use Rattle.corr_top.specs.Inputs.{Inputs}
 use Rattle.corr_top.specs.Passing.{Passes, StepIsUntouched, StopsAt, table_at, table_fault, table_file}
-use Rattle.corr_top.specs.Promise.{AreRight, Keeps, Told, writes}
+use Rattle.corr_top.specs.promises.Accounts.{AreRight}
+use Rattle.corr_top.specs.promises.Books.{Keeps, Told, writes}
 use Rattle.corr_top.specs.Steps.{Halts, Step, Walks}
 use Rattle.corr_top.specs.Stops.{status_of_change}
 use Rattle.corr_top.proofs.Completing.{opening_memory, table_memory}
@@ -76,7 +77,7 @@ module _ {S K D : Type 0} (source : sources.Ghosts S) (sink : sinks.Ghosts K) (d
 
   module _ (j : Inputs) where
     -- a table that is right stops nothing
-    table_stops : (steps : List Step) → Told source sink disk old new s steps i → AreRight source sink disk old new s steps i → (name : TableName) → Contains steps (Step.table name)
+    table_stops : (steps : List Step) → Told source old.tables steps i → AreRight source old.tables new.tables steps i → (name : TableName) → Contains steps (Step.table name)
         → (table_file name j ≡ table_file name i → table_fault name j ≡ table_fault name i) → StopsAt source disk old new j s (Step.table name) → ⊥
     table_stops steps told right name at same stops =
         let fine = right name at in
@@ -92,7 +93,7 @@ module _ {S K D : Type 0} (source : sources.Ghosts S) (sink : sinks.Ghosts K) (d
       ahead : Walks (Passes source disk old new j) (first_steps change)
       stops : StopsAt source disk old new j s Step.change
 
-    stops_there : (change : AccountChange) → Told source sink disk old new s (change_steps change) i → AreRight source sink disk old new s (change_steps change) i
+    stops_there : (change : AccountChange) → Told source old.tables (change_steps change) i → AreRight source old.tables new.tables (change_steps change) i
         → Halts (Passes source disk old new j) (StopsAt source disk old new j s) (StepIsUntouched disk old new) (change_steps change) → StopsThere change
     stops_there (Open words) told right halts =
         let steps = change_steps (Open words) in
@@ -118,7 +119,7 @@ module _ {S K D : Type 0} (source : sources.Ghosts S) (sink : sinks.Ghosts K) (d
     ]
 
 module _ {S K D : Type 0} (source : sources.Ghosts S) (sink : sinks.Ghosts K) (disk : disks.Ghosts D) (old new : Room S K D) (s : Status) (i : Inputs) where
-  pub refused_for : Told source sink disk old new s (change_steps i.change) i → Keeps disk old.disk i.chart i.history → AreRight source sink disk old new s (change_steps i.change) i
+  pub refused_for : Told source old.tables (change_steps i.change) i → Keeps disk old.disk i.chart i.history → AreRight source old.tables new.tables (change_steps i.change) i
       → (Rose (disk.faults old.disk) (disk.faults new.disk) → ⊥) → (s ≡ status.Memory → ⊥) → Ends source disk (change_meaning i.change) old new sink s → writes s ≡ false
       → IsRefusedFor i.chart i.history (row_fault i.chart (lent_in i) i.change) (what_of i) s
   refused_for told kept right sound enough ended none =

@@ -13,7 +13,7 @@ use Rattle.corr_top.specs.Passing.{Passes, StepIsUntouched, StopsAt}
 use Rattle.corr_top.specs.Steps.{Halts, Step, Walks}
 use Rattle.corr_top.specs.declared.room.Room.{Room}
 use Rattle.corr_top.specs.declared.status.Status.{Status}
-use Rattle.corr_top.specs.Promise.{Keeps}
+use Rattle.corr_top.specs.promises.Books.{Keeps}
 use Rattle.corr_top.proofs.Journals.{same_unwritten}
 use Rattle.corr_top.proofs.Walking.{ahead_of, is_named, walks_more}
 
@@ -45,7 +45,7 @@ unwritten_keeps disk old new chart books honest unwritten kept = record {
 abbrev leaves_disk : Step → Bool
 leaves_disk Step.make = true
 leaves_disk Step.open_journal = true
-leaves_disk Step.book = true
+leaves_disk Step.serve = true
 leaves_disk Step.change = true
 leaves_disk Step.old_journal = true
 leaves_disk Step.book_return = true
@@ -58,7 +58,7 @@ leaves_disk _ = false
 abbrev tells_disk : Step → Bool
 tells_disk Step.make = true
 tells_disk Step.open_journal = true
-tells_disk Step.book = true
+tells_disk Step.serve = true
 tells_disk Step.received = true
 tells_disk Step.sent = true
 tells_disk Step.change = true
@@ -94,12 +94,12 @@ module _ {S K D : Type 0} (source : sources.Ghosts S) (disk : disks.Ghosts D) (o
   -- nothing was written to the disk, or it stopped at the making of a journal, at the entering of pays, at a change of accounts, at
   -- the entering of a return, or at the taking of packets
   abbrev pub StopsSomewhere : List Step → Type 0
-  StopsSomewhere steps = IsUnwritten disk old.disk new.disk ⊎ (StopsNamed Step.make steps ⊎ (StopsNamed Step.book steps ⊎ (StopsNamed Step.change steps ⊎ (StopsNamed Step.book_return steps ⊎ StopsNamed Step.take steps))))
+  StopsSomewhere steps = IsUnwritten disk old.disk new.disk ⊎ (StopsNamed Step.make steps ⊎ (StopsNamed Step.serve steps ⊎ (StopsNamed Step.change steps ⊎ (StopsNamed Step.book_return steps ⊎ StopsNamed Step.take steps))))
 
   unreached : (step : Step) → leaves_disk step ≡ true → StepIsUntouched disk old new step → IsUnwritten disk old.disk new.disk
   unreached Step.make told same = same_unwritten disk only old.disk new.disk same
   unreached Step.open_journal told same = same_unwritten disk only old.disk new.disk same
-  unreached Step.book told unwritten = unwritten
+  unreached Step.serve told same = same.1
   unreached Step.change told unwritten = unwritten
   unreached Step.book_return told unwritten = unwritten
   unreached Step.begin told same = same_unwritten disk only old.disk new.disk same
@@ -129,7 +129,7 @@ module _ {S K D : Type 0} (source : sources.Ghosts S) (disk : disks.Ghosts D) (o
   stops_here : (step : Step) (steps : List Step) → (tells_disk step || list_any leaves_disk steps) ≡ true → StopsAt source disk old new i s step → Walks (StepIsUntouched disk old new) steps
       → StopsSomewhere (step ∷ steps)
   stops_here Step.make steps told stops all = inr (inl (record { named = refl; stops = stops; ahead = tt }))
-  stops_here Step.book steps told stops all = inr (inr (inl (record { named = refl; stops = stops; ahead = tt })))
+  stops_here Step.serve steps told stops all = inr (inr (inl (record { named = refl; stops = stops; ahead = tt })))
   stops_here Step.change steps told stops all = inr (inr (inr (inl (record { named = refl; stops = stops; ahead = tt }))))
   stops_here Step.book_return steps told stops all = inr (inr (inr (inr (inl (record { named = refl; stops = stops; ahead = tt })))))
   stops_here Step.take steps told stops all = inr (inr (inr (inr (inr (record { named = refl; stops = stops; ahead = tt })))))
@@ -161,7 +161,7 @@ module _ {S K D : Type 0} (source : sources.Ghosts S) (disk : disks.Ghosts D) (o
     | inr at ↦ elim at [
       | inl make ↦ inr (inl (with_more Step.make step steps passed make))
       | inr written ↦ elim written [
-        | inl book ↦ inr (inr (inl (with_more Step.book step steps passed book)))
+        | inl book ↦ inr (inr (inl (with_more Step.serve step steps passed book)))
         | inr later ↦ elim later [
           | inl change ↦ inr (inr (inr (inl (with_more Step.change step steps passed change))))
           | inr last ↦ elim last [
@@ -180,7 +180,7 @@ module _ {S K D : Type 0} (source : sources.Ghosts S) (disk : disks.Ghosts D) (o
       stops_later step steps later.0 (stops_somewhere steps (both_true (tells_disk step || list_any leaves_disk steps) (are_told steps) told).1 later.1)
 
   -- a command that neither makes a journal, nor enters pays or a return, nor changes accounts, nor takes packets wrote nothing where it stopped
-  pub stops_unwritten : (steps : List Step) → are_told steps ≡ true → is_named Step.make steps ≡ false → is_named Step.book steps ≡ false
+  pub stops_unwritten : (steps : List Step) → are_told steps ≡ true → is_named Step.make steps ≡ false → is_named Step.serve steps ≡ false
       → is_named Step.change steps ≡ false → is_named Step.book_return steps ≡ false → is_named Step.take steps ≡ false → Halts (Passes source disk old new i) (StopsAt source disk old new i s) (StepIsUntouched disk old new) steps → IsUnwritten disk old.disk new.disk
   stops_unwritten steps told no_make no_book no_change no_return no_take halts = elim (stops_somewhere steps told halts) [
     | inl unwritten ↦ unwritten

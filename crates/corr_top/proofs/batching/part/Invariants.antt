@@ -1,5 +1,5 @@
 use Rattle.std.proofs.Common.{◌≡◌, ◌+◌, ◌≤◌, ◌++◌, length, map, vec_capacity}
-use Rattle.corr_top.specs.Batching.{ask_of}
+use Rattle.corr_top.specs.inner.Batching.{ask_of}
 use Rattle.corr_top.specs.Message.{pays_in}
 use Rattle.corr_top.proofs.batching.part.Given as goal
 

@@ -1,5 +1,5 @@
 use Rattle.std.proofs.Common.{◌≡◌, ◌+◌, ◌≤◌, ◌++◌, length, vec_capacity}
-use Rattle.corr_top.specs.Batching.{all_made}
+use Rattle.corr_top.specs.inner.Batching.{all_made}
 use Rattle.corr_top.proofs.batching.put_all.Given as goal
 
 abbrev pub invariant-loop-made : goal.invariant-loop-made

@@ -1,5 +1,5 @@
 use Rattle.std.proofs.Common.{◌≡◌, ◌+◌, ◌≤◌, ◌++◌, length, vec_capacity}
-use Rattle.corr_top.specs.Batching.{halted_by, made_by}
+use Rattle.corr_top.specs.inner.Batching.{halted_by, made_by}
 use Rattle.corr_top.proofs.batching.put_made.Given as goal
 
 abbrev pub invariant-loop-ask : goal.invariant-loop-ask

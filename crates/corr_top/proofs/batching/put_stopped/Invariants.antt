@@ -1,5 +1,5 @@
 use Rattle.std.proofs.Common.{◌≡◌, ◌++◌, vec_capacity}
-use Rattle.corr_top.specs.Batching.{stopped_so}
+use Rattle.corr_top.specs.inner.Batching.{stopped_so}
 use Rattle.corr_top.proofs.batching.put_stopped.Given as goal
 
 abbrev pub invariant-loop-at : goal.invariant-loop-at

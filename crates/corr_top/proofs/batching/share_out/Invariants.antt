@@ -1,5 +1,5 @@
 use Rattle.std.proofs.Common.{◌≡◌, ◌-◌, ◌≤◌, ◌++◌, drop, length}
-use Rattle.corr_top.specs.Batching.{messages_in}
+use Rattle.corr_top.specs.inner.Batching.{messages_in}
 use Rattle.corr_top.proofs.batching.share_out.Given as goal
 
 -- so many messages were dealt

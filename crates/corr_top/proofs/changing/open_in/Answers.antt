@@ -2,7 +2,8 @@ use Rattle.std.proofs.Common.{◌≡◌, ◌∙◌, None, ap, subst, sym}
 use Rattle.day_model.specs.Chart.{Chart}
 use Rattle.jrn_file.specs.File.{disk_of}
 use Rattle.corr_top.specs.declared.account_words.AccountChange.TheVariants.{Open}
-use Rattle.corr_top.specs.Changed.{IsRowRefused, row_fault}
+use Rattle.corr_top.specs.Changed.{row_fault}
+use Rattle.corr_top.specs.inner.Changed.{IsRowRefused}
 use Rattle.corr_top.proofs.AccountChanges.{opened_form, opened_texts, opened_what, opening_stops, refused_texts, row_home}
 use Rattle.corr_top.proofs.changing.open_in.Goals as goal
 

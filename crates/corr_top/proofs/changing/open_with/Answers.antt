@@ -4,7 +4,7 @@ use Rattle.corr_top.specs.declared.status.Status.{Status}
 use Rattle.corr_top.specs.declared.words.Command.TheVariants.{Plain}
 use Rattle.corr_top.specs.declared.words.Plain.TheVariants.{Change}
 use Rattle.corr_top.specs.Commands.{meaning_of}
-use Rattle.corr_top.specs.Ends.{HasTexts}
+use Rattle.corr_top.specs.inner.Ends.{HasTexts}
 use Rattle.corr_top.proofs.AccountChanges.{lent_stop, open_texts}
 use Rattle.corr_top.proofs.changing.open_with.Goals as goal
 

@@ -4,7 +4,8 @@ use Rattle.ref_tables.specs.declared.fault.TableName.TheVariants as names
 use Rattle.ref_tables.specs.Accounts.{account_fault}
 use Rattle.ref_tables.specs.Refusals.{Tells, named}
 use Rattle.corr_top.specs.declared.status.Status.{Status}
-use Rattle.corr_top.specs.Changed.{IsRowRefused, cells_in}
+use Rattle.corr_top.specs.Changed.{cells_in}
+use Rattle.corr_top.specs.inner.Changed.{IsRowRefused}
 use Rattle.corr_top.proofs.AccountChanges.{row_told}
 use Rattle.corr_top.proofs.changing.read_row.Goals as goal
 

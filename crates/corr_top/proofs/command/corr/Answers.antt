@@ -63,7 +63,7 @@ pub returns-in-Some-Plain-clause-promises : goal.returns-in-Some-Plain-clause-pr
 returns-in-Some-Plain-clause-promises g c =
     let ends : IfSome (command_of c.args.words.now) (λ command. Ends g.S.Source g.D.Disk (meaning_of command) c.args.room c.perform.result.room g.K.Sink c.perform.result.status) = search rules in
     promised_if g.S.Source g.K.Sink g.D.Disk (λ (command : Command). command) (command_of c.args.words.now) c.args.room c.perform.result.room c.perform.result.status
-    (g.met.D.Disk g.world.𝓛 g.world.𝓜 g.world.𝓡 ((λ s x. x), (λ x. x), (λ x. x), λ x. x)).only_now c.perform.ensures.honest ends
+    (g.met.D.Disk g.world.𝓛 g.world.𝓜 g.world.𝓡 ((λ s x. x), (λ x. x), (λ x. x), λ x. x)).only_now (g.met.D.Disk g.world.𝓛 g.world.𝓜 g.world.𝓡 ((λ s x. x), (λ x. x), (λ x. x), λ x. x)).counts_now c.perform.ensures.honest ends
 
 pub returns-in-Some-Run-clause-promises : goal.returns-in-Some-Run-clause-promises
 returns-in-Some-Run-clause-promises g c =
@@ -71,7 +71,7 @@ returns-in-Some-Run-clause-promises g c =
     let ends : IfSome (command_of c.args.words.now) (λ command. Ends g.S.Source g.D.Disk (meaning_of command) c.args.room c.end.result.room g.K.Sink c.end.result.status) = search (done, rules) in
     let honest : g.D.Disk.honest c.end.result.room.disk ≡ g.D.Disk.honest c.args.room.disk = search rules in
     promised_if g.S.Source g.K.Sink g.D.Disk (λ (command : Command). command) (command_of c.args.words.now) c.args.room c.end.result.room c.end.result.status
-    (g.met.D.Disk g.world.𝓛 g.world.𝓜 g.world.𝓡 ((λ s x. x), (λ x. x), (λ x. x), λ x. x)).only_now honest ends
+    (g.met.D.Disk g.world.𝓛 g.world.𝓜 g.world.𝓡 ((λ s x. x), (λ x. x), (λ x. x), λ x. x)).only_now (g.met.D.Disk g.world.𝓛 g.world.𝓜 g.world.𝓡 ((λ s x. x), (λ x. x), (λ x. x), λ x. x)).counts_now honest ends
 
 pub returns-in-Some-Trial-clause-promises : goal.returns-in-Some-Trial-clause-promises
 returns-in-Some-Trial-clause-promises g c =
@@ -80,7 +80,7 @@ returns-in-Some-Trial-clause-promises g c =
     let done = c.end-in-Some-Trial.ensures.ends command c.args.room (tried_texts g.S.Source g.D.Disk t.count t.seed t.workers c.args.room c.trial.result c.trial.ensures) in
     let ends : IfSome (command_of c.args.words.now) (λ command. Ends g.S.Source g.D.Disk (meaning_of command) c.args.room c.end-in-Some-Trial.result.room g.K.Sink c.end-in-Some-Trial.result.status) = search (done, rules) in
     promised_if g.S.Source g.K.Sink g.D.Disk (λ (command : Command). command) (command_of c.args.words.now) c.args.room c.end-in-Some-Trial.result.room c.end-in-Some-Trial.result.status
-    (g.met.D.Disk g.world.𝓛 g.world.𝓜 g.world.𝓡 ((λ s x. x), (λ x. x), (λ x. x), λ x. x)).only_now (ap g.D.Disk.honest c.end-in-Some-Trial.ensures.disk) ends
+    (g.met.D.Disk g.world.𝓛 g.world.𝓜 g.world.𝓡 ((λ s x. x), (λ x. x), (λ x. x), λ x. x)).only_now (g.met.D.Disk g.world.𝓛 g.world.𝓜 g.world.𝓡 ((λ s x. x), (λ x. x), (λ x. x), λ x. x)).counts_now (ap g.D.Disk.honest c.end-in-Some-Trial.ensures.disk) ends
 
 pub returns-in-Some-Return-clause-ends : goal.returns-in-Some-Return-clause-ends
 returns-in-Some-Return-clause-ends g c =
@@ -104,4 +104,4 @@ returns-in-Some-Return-clause-promises g c =
     let ends : IfSome (command_of c.args.words.now) (λ command. Ends g.S.Source g.D.Disk (meaning_of command) c.args.room c.end-in-Some-Return.result.room g.K.Sink c.end-in-Some-Return.result.status) = search (done, rules) in
     let honest : g.D.Disk.honest c.end-in-Some-Return.result.room.disk ≡ g.D.Disk.honest c.args.room.disk = search rules in
     promised_if g.S.Source g.K.Sink g.D.Disk (λ (command : Command). command) (command_of c.args.words.now) c.args.room c.end-in-Some-Return.result.room c.end-in-Some-Return.result.status
-    (g.met.D.Disk g.world.𝓛 g.world.𝓜 g.world.𝓡 ((λ s x. x), (λ x. x), (λ x. x), λ x. x)).only_now honest ends
+    (g.met.D.Disk g.world.𝓛 g.world.𝓜 g.world.𝓡 ((λ s x. x), (λ x. x), (λ x. x), λ x. x)).only_now (g.met.D.Disk g.world.𝓛 g.world.𝓜 g.world.𝓡 ((λ s x. x), (λ x. x), (λ x. x), λ x. x)).counts_now honest ends

@@ -2,7 +2,7 @@ use Rattle.std.proofs.Common.{subst, sym}
 use Rattle.corr_top.specs.declared.words.Command.TheVariants.{Plain as PlainCommand}
 use Rattle.corr_top.specs.declared.words.Plain.{Plain as ThePlain}
 use Rattle.corr_top.specs.Commands.{meaning_of}
-use Rattle.corr_top.specs.Ends.{HasTexts}
+use Rattle.corr_top.specs.inner.Ends.{HasTexts}
 use Rattle.corr_top.proofs.Generating.{generated_texts}
 use Rattle.corr_top.proofs.command.perform.Goals as goal
 

@@ -15,7 +15,7 @@ returns-in-Some-Plain-clause-complete g c =
 pub returns-in-Some-Plain-clause-promises : goal.returns-in-Some-Plain-clause-promises
 returns-in-Some-Plain-clause-promises g c =
     let ends : IfSome (plain_of c.args.words.now) (λ command. Ends g.S.Source g.D.Disk (meaning_of (Plain command)) c.args.room c.perform.result.room g.K.Sink c.perform.result.status) = search rules in
-    promised_if g.S.Source g.K.Sink g.D.Disk Plain (plain_of c.args.words.now) c.args.room c.perform.result.room c.perform.result.status g.met.D.Disk.only_now c.perform.ensures.honest ends
+    promised_if g.S.Source g.K.Sink g.D.Disk Plain (plain_of c.args.words.now) c.args.room c.perform.result.room c.perform.result.status g.met.D.Disk.only_now g.met.D.Disk.counts_now c.perform.ensures.honest ends
 
 pub returns-in-Some-Plain-clause-line : goal.returns-in-Some-Plain-clause-line
 returns-in-Some-Plain-clause-line g c =

@@ -1,7 +1,7 @@
 use Rattle.std.proofs.Common.{◌≡◌, ◌-◌, ◌++◌, [], ℕ, List, length, ap, arith, refl, sym, subst, ◌∙◌, append_assoc, length-append}
 use Rattle.std.proofs.lemmas.Grind.{common_steps}
 use Rattle.std.proofs.lemmas.Result.{err_from_is_err_and}
-use Rattle.corr_top.specs.Feeding.{StopsFeeding}
+use Rattle.corr_top.specs.inner.Feeding.{StopsFeeding}
 use Rattle.corr_top.specs.MessageFile.{IsMessageFile}
 use Rattle.corr_top.proofs.MessageFiles.{counted, cut-at-end, have-begun, parted, starts, stops-here}
 use Rattle.corr_top.proofs.cutting.cut_in_pieces.Goals as goal

@@ -1,5 +1,5 @@
 use Rattle.std.proofs.Common.{◌≡◌, ℕ, List, ◌++◌, length}
-use Rattle.corr_top.specs.Feeding.{HasPassed}
+use Rattle.corr_top.specs.inner.Feeding.{HasPassed}
 use Rattle.corr_top.proofs.cutting.cut_in_pieces.Given as goal
 
 abbrev pub invariant-loop-rest : goal.invariant-loop-rest

@@ -1,5 +1,5 @@
 use Rattle.std.proofs.Common.{◌≡◌, ◌+◌, ◌≤◌, ◌++◌, length, map, vec_capacity}
-use Rattle.corr_top.specs.Serving.{starting}
+use Rattle.corr_top.specs.inner.Serving.{starting}
 use Rattle.corr_top.proofs.desk.seat.Given as goal
 
 abbrev pub invariant-loop-pass : goal.invariant-loop-pass

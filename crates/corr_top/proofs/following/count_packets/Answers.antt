@@ -1,4 +1,4 @@
-use Rattle.std.proofs.Common.{◌+◌, ◌∷◌, ◌++◌, ◌∙◌, [], List, ℕ, arith, ap, append_assoc, length, length-append, refl, sym}
+use Rattle.std.proofs.Common.{◌∷◌, ◌++◌, ◌∙◌, [], List, ℕ, arith, ap, append_assoc, length, length-append, refl, sym}
 use Rattle.standby.specs.declared.packet.Packet.{Packet}
 use Rattle.corr_top.specs.Followed.{packet_bytes}
 use Rattle.corr_top.proofs.FollowedDisk.{none_cut, one_behind}

@@ -1,4 +1,4 @@
-use Rattle.std.proofs.Common.{◌≡◌, ◌∙◌, ℕ, ap, refl, sym, length}
+use Rattle.std.proofs.Common.{◌∙◌, ℕ, ap, refl, sym}
 use mathlib.Core.Bool.{true≢false}
 use Rattle.jrn_file.specs.declared.fault.MakeFault.TheVariants as making
 use Rattle.corr_top.specs.Stops.{status_of_copying}

@@ -5,7 +5,7 @@ use Rattle.std.proofs.lemmas.Option.{slice_get_within}
 use Rattle.corr_report.proofs.laws.Rests.{rest_at}
 use Rattle.day_model.proofs.laws.Fronts.{fits_now}
 use Rattle.corr_top.specs.Out.{entry_out}
-use Rattle.corr_top.specs.Serving.{HasPayShape}
+use Rattle.corr_top.specs.inner.Serving.{HasPayShape}
 use Rattle.corr_top.proofs.Adding.{in_front, none_after, numbered_done, numbered_next}
 use Rattle.corr_top.proofs.Replying.{get_all}
 use Rattle.corr_top.proofs.Sending.{more-accepted}

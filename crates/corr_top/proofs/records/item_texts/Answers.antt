@@ -1,6 +1,6 @@
 use Rattle.std.proofs.Common.{◌≡◌, ◌+◌, ◌-◌, ◌≤◌, ℕ, List, arith, length, refl, subst, sym}
 use Rattle.jrn_codec.specs.Record.{IsEntry}
-use Rattle.corr_top.specs.Ship.{AreDue}
+use Rattle.corr_top.specs.inner.Ship.{AreDue}
 use Rattle.corr_top.proofs.CarriedOver.{short_more}
 use Rattle.corr_top.proofs.JournalRecords.{adds_entry, adds_last, due_first}
 use Rattle.corr_top.proofs.Replying.{get_all}

@@ -1,6 +1,6 @@
 use Rattle.std.proofs.Common.{◌≡◌, ◌-◌, ◌≤◌, ◌++◌, All, drop, length}
 use Rattle.jrn_book.specs.Journal.{item_records}
-use Rattle.corr_top.specs.Ship.{AreDue, records_from}
+use Rattle.corr_top.specs.inner.Ship.{AreDue, records_from}
 use Rattle.corr_top.proofs.records.item_texts.Given as goal
 
 -- what is still to be written, that the changes that are left are due, and that all so far are short

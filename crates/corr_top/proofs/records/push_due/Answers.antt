@@ -2,7 +2,7 @@ use Rattle.std.proofs.Common.{List, arith, ap, length, refl, subst}
 use Rattle.std.proofs.lemmas.List.Elements.{All-head}
 use Rattle.day_model.specs.declared.change.Change.{Change}
 use Rattle.jrn_codec.specs.Change.{IsWhat}
-use Rattle.corr_top.specs.Ship.{AreDue}
+use Rattle.corr_top.specs.inner.Ship.{AreDue}
 use Rattle.corr_top.proofs.CarriedOver.{short_more}
 use Rattle.corr_top.proofs.JournalRecords.{adds_change, due_later, due_rest}
 use Rattle.corr_top.proofs.records.push_due.Goals as goal

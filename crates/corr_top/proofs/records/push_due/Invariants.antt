@@ -1,5 +1,5 @@
 use Rattle.std.proofs.Common.{◌≤◌, All, length}
-use Rattle.corr_top.specs.Ship.{AddsDue, AreDue}
+use Rattle.corr_top.specs.inner.Ship.{AddsDue, AreDue}
 use Rattle.corr_top.proofs.records.push_due.Given as goal
 
 -- what was added stands for the changes that are no longer left, those that are left are due, and all so far are short

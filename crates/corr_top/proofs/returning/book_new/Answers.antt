@@ -1,5 +1,5 @@
 use Rattle.std.proofs.Common.{inl, subst, sym}
-use Rattle.corr_top.specs.Returning.{GivesBooked}
+use Rattle.corr_top.specs.inner.Returning.{GivesBooked}
 use Rattle.corr_top.proofs.BookedPay.{gives_booked, some_entry}
 use Rattle.corr_top.proofs.returning.book_new.Goals as goal
 

@@ -2,7 +2,7 @@ use Rattle.std.proofs.Common.{◌-◌, ◌∙◌, ap, sym}
 use Rattle.std.proofs.lemmas.Option.{same_Some}
 use Rattle.day_model.proofs.laws.Fronts.{fits_now}
 use Rattle.corr_top.specs.Out.{parted_all}
-use Rattle.corr_top.specs.Serving.{HasPayShape}
+use Rattle.corr_top.specs.inner.Serving.{HasPayShape}
 use Rattle.corr_top.proofs.Replying.{get_all}
 use Rattle.corr_top.proofs.Returned.{gives_last}
 use Rattle.corr_top.proofs.returning.entry_texts.Goals as goal

@@ -4,7 +4,7 @@ use Rattle.day_model.specs.Chart.{Chart}
 use Rattle.day_model.specs.declared.entry.Entry.{Entry}
 use Rattle.jrn_codec.specs.Record.{IsEntry}
 use Rattle.pay_returns.specs.Making.{MayReturn, TellsReturnFault}
-use Rattle.corr_top.specs.Serving.{HasPayShape}
+use Rattle.corr_top.specs.inner.Serving.{HasPayShape}
 use Rattle.corr_top.proofs.BookedPay.{gives_returned}
 use Rattle.corr_top.proofs.returning.return_in.Goals as goal
 

@@ -1,5 +1,5 @@
 use Rattle.std.proofs.Common.{ℕ, subst}
-use Rattle.corr_top.specs.Collecting.{IsCalm}
+use Rattle.corr_top.specs.inner.Collecting.{IsCalm}
 use Rattle.corr_top.proofs.Returned.{at_end}
 use Rattle.corr_top.proofs.returning.texts_of.Goals as goal
 

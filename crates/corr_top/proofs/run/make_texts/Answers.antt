@@ -1,7 +1,7 @@
 use Rattle.std.proofs.Common.{◌+◌, List, subst, arith}
 use Rattle.std.proofs.lemmas.List.{take_all}
 use Rattle.day_model.specs.declared.entry.Entry.{Entry}
-use Rattle.corr_top.specs.Origin.{SendsAccepted}
+use Rattle.corr_top.specs.inner.Origin.{SendsAccepted}
 use Rattle.corr_top.proofs.run.make_texts.Goals as goal
 
 pub returns-clause-accepted : goal.returns-clause-accepted

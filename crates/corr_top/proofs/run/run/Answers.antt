@@ -1,6 +1,6 @@
 use Rattle.std.proofs.Common.{◌∙◌, Err, refl, subst, sym}
 use Rattle.corr_top.specs.Commands.{meaning_of}
-use Rattle.corr_top.specs.Ends.{HasTexts}
+use Rattle.corr_top.specs.inner.Ends.{HasTexts}
 use Rattle.corr_top.specs.declared.status.Status.{Status}
 use Rattle.corr_top.specs.declared.words.Command.TheVariants.{Run}
 use Rattle.corr_top.proofs.Journals.{same_unwritten}
@@ -28,11 +28,11 @@ returns-clause-texts g c =
     let has = c.in-Ok.ensures.fine in
     let opened = c.in-Ok-open_books.opened in
     let e = c.in-Ok-open_books.ensures in
-    let new = record c.args.room { tables = c.read_directory.new.files; messages = c.run_day-disk.new.source; disk = c.run_day-disk.result.0 } in
+    let new = record c.args.room { tables = c.read_directory.new.files; messages = c.run_day-source.result.0; disk = c.run_day-source.result.1 } in
     day_ends g.S.Source g.D.Disk c.args.day c.args.workers c.args.entries c.args.room new (record { accounts = has.accounts; received = refl; sent = refl; disk2 = refl; report = refl; out = refl }) c.in-Ok.directory has
-    opened e.journal e.told e.latest e.opened.1 e.kept e.honest e.opened.0 e.untouched c.run_day-disk.result.1 c.run_day-disk.ensures
+    opened e.journal e.told e.latest e.opened.1 e.kept e.honest e.opened.0 e.untouched c.run_day-source.result.2 c.run_day-source.ensures
 
 pub returns-clause-honest : goal.returns-clause-honest
 returns-clause-honest g c =
     let opened = c.in-Ok-open_books.opened in
-    day_honest g.S.Source g.D.Disk c.in-Ok.directory c.args.workers c.args.entries c.args.room.messages c.run_day-disk.new.source opened c.run_day-disk.result.0 c.run_day-disk.result.1 c.run_day-disk.ensures ∙ c.in-Ok-open_books.ensures.honest
+    day_honest g.S.Source g.D.Disk c.in-Ok.directory c.args.workers c.args.entries c.args.room.messages c.run_day-source.result.0 opened c.run_day-source.result.1 c.run_day-source.result.2 c.run_day-source.ensures ∙ c.in-Ok-open_books.ensures.honest

@@ -9,12 +9,12 @@ use Rattle.day_model.specs.declared.pay.Pay.{Pay}
 use Rattle.day_model.specs.Chart.{AreBy, Chart}
 use Rattle.front_word.specs.Known.{PassKnows}
 use Rattle.jrn_book.specs.Journal.{IsJournal}
-use Rattle.corr_top.specs.Workers.{Worker}
+use Rattle.corr_top.specs.inner.Workers.{Worker}
 use Rattle.corr_top.specs.declared.message.NoPay.{NoPay}
 use Rattle.corr_top.specs.declared.desk.Served.{Served}
-use Rattle.corr_top.specs.Batching.{all_made}
+use Rattle.corr_top.specs.inner.Batching.{all_made}
 use Rattle.corr_top.specs.Message.{pay_asked_of, readings_of}
-use Rattle.corr_top.specs.Serving.{AllServed, AreServedInOrder, AreTold, starting}
+use Rattle.corr_top.specs.inner.Serving.{AllServed, AreServedInOrder, AreTold, starting}
 use Rattle.corr_top.proofs.Batches.{unmapped}
 use Rattle.corr_top.proofs.Batched.{carried, carried_none, done_of, room_for}
 use Rattle.corr_top.proofs.Workers.{added_of, all_back, none_of, told_of, turn_of}

@@ -1,4 +1,4 @@
-use Rattle.std.proofs.Common.{◌≡◌, List, ℕ, IfOk, OnOk, sym, subst}
+use Rattle.std.proofs.Common.{◌≡◌, IfOk, OnOk, sym, subst}
 use Rattle.std.proofs.lemmas.Result.{IfOk-weaker, on_ok_weaker}
 use Rattle.statement.specs.Pages.{pages_of}
 use Rattle.statement.specs.Seen.{SeenBook}
