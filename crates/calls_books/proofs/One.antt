@@ -1,7 +1,7 @@
 -- A history of one entry.
 use Rattle.std.proofs.Common.{◌≡◌, ℕ, zero, suc, List, [], ◌∷◌, Some, refl, sym, subst, arith}
-use Rattle.std.specs.Prelude.{slice_get}
-use Rattle.std.proofs.lemmas.Option.{same_Some, none-some}
+use Rattle.std.specs.Prelude.{All, slice_get, slice_index_or}
+use Rattle.std.proofs.lemmas.Option.{same_Some, none-some, slice_get-get_or}
 use Rattle.corr_ids.specs.declared.day.Day.{Day}
 use Rattle.corr_ids.specs.Day.{InCentury}
 use Rattle.day_model.specs.declared.pay.Pay.{Pay}
@@ -13,6 +13,7 @@ use Rattle.day_model.specs.Legal.{IsLegal}
 use Rattle.day_model.proofs.laws.Growth.{empty_is_legal, one_pay_more}
 use Rattle.corr_report.specs.Bookings.{AreInCentury}
 use Rattle.desk_rows.specs.Entries.{AreValued}
+use Rattle.desk_page.specs.Ahead.{IsDated}
 
 -- it is legal where the pay fits accounts without changes
 pub only_legal : (chart : Chart) (entries : List Entry) (pay : Pay) (day : Day) → chart.changes ≡ [] → FitsAccounts chart pay → entries ≡ entry_of chart [] pay day ∷ [] → IsLegal chart entries
@@ -38,3 +39,10 @@ value_of_only only (suc i) e value at = absurd (none-some e at)
 pub only_value : (chart : Chart) (entries : List Entry) (pay : Pay) (day value : Day) → InCentury value → pay.value ≡ value → entries ≡ entry_of chart [] pay day ∷ [] → AreValued entries
 only_value chart entries pay day value within same is =
     subst AreValued (sym is) (λ i e at. value_of_only (entry_of chart [] pay day) i e (subst InCentury (sym same) within) at)
+
+-- entries whose days and value dates are of these years can be dated on a page
+pub dated : (entries : List Entry) → AreInCentury entries → AreValued entries → All IsDated entries
+dated entries days values k d within =
+    let entry = slice_index_or entries k d in
+    let at = slice_get-get_or entries k d within in
+    record { day = days k entry at; value = values k entry at }

@@ -8,6 +8,8 @@ mod given;
 #[cfg(test)]
 mod histories;
 #[cfg(test)]
+mod pages;
+#[cfg(test)]
 mod plans;
 #[cfg(test)]
 mod reports;

@@ -1,26 +1,26 @@
 //! The pay of a transfer, and the charge that is taken out of it.
 
-ghost use Rattle.std.specs.Prelude.{◌≤◌, IfOk, IsSome, length};
+ghost use Rattle.std.specs.Prelude.{◌≡◌, ◌≤◌, IfOk, Some, length};
 ghost use Rattle.pay_plan.specs.Readable.{IsTransferRead};
 
 use crate::given::{FIRST, HOME, OTHER, bank_and_customer, bank_customer_and_fees};
-use corr_ids::Envelope;
+use corr_ids::{Envelope, Mir};
 use corr_money::Minor;
 use corr_text::{Code, List, Text};
 use day_model::{Accounts, AcctNo, Pay};
 use fin_fields::{Field, FieldFault, cut_fields};
 use mt103::{Mt103, read_mt103};
-use pay_plan::{Ask, Charge, Charged, P39, P40, PlanFault, accounts_of, pay_on, plan};
+use pay_plan::{Ask, Charge, Charged, P39, P40, PlanFault, accounts_of, asked_of, pay_on, plan};
 use ref_tables::{Charges, RefTables, TableFault, read_charges, read_tables};
 use ssi_versions::Ssi;
 use std::alloc::Global;
 use std::test::Fail;
 
-fn envelope() -> Envelope
-    ensures { IsSome result.mir }
+fn envelope(mir: Mir) -> Envelope
+    ensures { result.mir ≡ Some mir }
 {
     Envelope {
-        mir: Some(FIRST),
+        mir: Some(mir),
         sender: OTHER,
         receiver: HOME,
         uetr: None,
@@ -99,7 +99,7 @@ fn planned(alloc: Global, desk: &Desk, m: &Mt103, text: &Text) -> Result<Pay, Pl
 {
     plan(
         alloc,
-        &envelope(),
+        &envelope(FIRST),
         text,
         Ask::Transfer(m),
         &desk.ssi,
@@ -111,7 +111,15 @@ fn planned(alloc: Global, desk: &Desk, m: &Mt103, text: &Text) -> Result<Pay, Pl
 // The accounts of a transfer and its charge. Promises nothing.
 fn accounts(desk: &Desk, m: &Mt103) -> Result<Charged, Code> {
     let ask = Ask::Transfer(m);
-    accounts_of(&envelope(), ask, &desk.ssi, &desk.book, &desk.charges)
+    let asked = asked_of(desk.book.home(), ask);
+    accounts_of(
+        &envelope(FIRST),
+        ask,
+        &asked,
+        &desk.ssi,
+        &desk.book,
+        &desk.charges,
+    )
 }
 
 // The same pay, first its accounts and then the pay on them. Promises nothing.
@@ -119,8 +127,10 @@ fn planned_apart(alloc: Global, desk: &Desk, m: &Mt103, text: &Text) -> Result<P
     requires { IsTransferRead desk.now.tables m.now }
 {
     let ask = Ask::Transfer(m);
-    let charged = accounts_of(&envelope(), ask, &desk.ssi, &desk.book, &desk.charges)?;
-    Ok(pay_on(alloc, &envelope(), text, ask, &charged, &desk.book)?)
+    let asked = asked_of(desk.book.home(), ask);
+    let envelope = envelope(FIRST);
+    let charged = accounts_of(&envelope, ask, &asked, &desk.ssi, &desk.book, &desk.charges)?;
+    Ok(pay_on(alloc, FIRST, &envelope, text, &asked, &charged, &desk.book)?)
 }
 
 // A transfer of 1,00 to account C, whose charges somebody bears.

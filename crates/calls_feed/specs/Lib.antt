@@ -1,1 +1,1 @@
-pub mod Feeds
+pub mod inner

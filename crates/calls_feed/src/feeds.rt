@@ -23,7 +23,7 @@ struct Numbers {
 }
 
 impl Feed for Numbers {
-    ghost use Rattle.calls_feed.specs.Feeds.{up_to};
+    ghost use Rattle.calls_feed.specs.inner.Feeds.{up_to};
 
     type Job = u32;
 

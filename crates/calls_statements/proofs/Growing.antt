@@ -18,7 +18,7 @@ use Rattle.statement.proofs.laws.Fronts.{whole-front}
 use Rattle.statement.specs.Index.{IsIndexOf, TakesNext, grown}
 use Rattle.statement.specs.Seen.{SeenBook}
 use Rattle.statement.specs.declared.index.HistoryIndex.{HistoryIndex}
-use Rattle.calls_statements.specs.Grown.{IsGrown, the_day}
+use Rattle.calls_statements.specs.inner.Grown.{IsGrown, the_day}
 
 -- the entry that a pay becomes
 abbrev pub entry_with : Pay → Outcome → Entry

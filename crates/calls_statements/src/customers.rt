@@ -7,7 +7,7 @@ ghost use Rattle.fin_contents.specs.Writing.{IsReadable};
 ghost use Rattle.fin_fields.specs.Writing.{IsField};
 ghost use Rattle.mt940_out.specs.Page.{mt940_of};
 ghost use Rattle.ref_tables.specs.Seen.{few_decimals};
-ghost use Rattle.calls_statements.specs.Grown.{IsGrown};
+ghost use Rattle.calls_statements.specs.inner.Grown.{IsGrown};
 
 use crate::given::{DAY, accounts, charged_onward, enter, is_only};
 use crate::received::{cut, tables};

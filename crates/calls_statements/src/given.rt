@@ -3,7 +3,7 @@
 ghost use Rattle.std.specs.Prelude.{◌≡◌, [], IfOk, OnOk};
 ghost use Rattle.corr_ids.specs.Bic.{IsBic};
 ghost use Rattle.day_model.specs.Shape.{HasShape};
-ghost use Rattle.calls_statements.specs.Grown.{IsGrown};
+ghost use Rattle.calls_statements.specs.inner.Grown.{IsGrown};
 
 use corr_ids::{Bic, Day, read_bic};
 use corr_money::Ccy;

@@ -8,14 +8,14 @@ ghost use Rattle.mt950.specs.Page.{mt950_of};
 ghost use Rattle.fin_contents.specs.Writing.{IsReadable};
 ghost use Rattle.ref_tables.specs.Seen.{few_decimals};
 ghost use Rattle.reconcile.specs.Bounds.{IsReceived};
-ghost use Rattle.calls_statements.specs.Grown.{IsGrown};
+ghost use Rattle.calls_statements.specs.inner.Grown.{IsGrown};
 
 use crate::given::{accounts, grown, returned};
 use corr_text::{List, Memory, Text};
 use day_model::{Accounts, AcctNo, History};
 use fin_fields::{Field, cut_fields};
 use mt950::{Page950, Statement, join_pages, read_mt950};
-use reconcile::{Compared, breaks, compare, pieces};
+use reconcile::{Compared, breaks, compare, few_compared, none_left_out, pieces};
 use ref_tables::{RefTables, read_tables};
 use statement::HistoryIndex;
 use std::alloc::Global;
@@ -142,8 +142,15 @@ fn a_line_takes_the_first_of_two_entries(rt: HostRuntime) -> Result<(), Fail> {
     Ok(())
 }
 
+// The laws are theorems, and their calls do nothing. Promises nothing, so that the test carries none of them.
+fn laws() {
+    few_compared();
+    none_left_out();
+}
+
 // What is told of a statement with a line that no entry says.
 fn told_of_a_line(alloc: Global) -> Result<Text, Fail> {
+    laws();
     let a = accounts(alloc)?;
     let (h, _index) = grown(alloc, &a, 2, 123_450)?;
     let mut pages = Vec::new(alloc);

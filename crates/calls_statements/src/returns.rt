@@ -4,7 +4,7 @@ ghost use Rattle.std.specs.Prelude.{◌≡◌, ◌≤◌, [], IfOk, length};
 ghost use Rattle.corr_ids.specs.Bic.{IsBic};
 ghost use Rattle.day_model.specs.Fit.{FitsAccounts};
 ghost use Rattle.day_model.specs.Shape.{HasShape};
-ghost use Rattle.calls_statements.specs.Grown.{IsGrown};
+ghost use Rattle.calls_statements.specs.inner.Grown.{IsGrown};
 
 use crate::given::{ALPHA, accounts, charged_onward, enter, returned};
 use advices::orders;

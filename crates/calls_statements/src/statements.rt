@@ -3,7 +3,7 @@
 ghost use Rattle.std.specs.Prelude.{◌<◌, length};
 ghost use Rattle.corr_ids.specs.Bic.{IsBic};
 ghost use Rattle.day_model.specs.Chart.{IsListed};
-ghost use Rattle.calls_statements.specs.Grown.{IsGrown};
+ghost use Rattle.calls_statements.specs.inner.Grown.{IsGrown};
 
 use crate::given::{DAY, accounts, charged, grown, is_only, returned};
 use corr_ids::Day;

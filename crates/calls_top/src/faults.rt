@@ -140,3 +140,33 @@ fn a_failed_write_ends_a_run(rt: HostRuntime) -> Result<(), Fail> {
     assert!(rt; told && report.bytes().starts_with(b"000001 "));
     Ok(())
 }
+
+// A message, and a byte that begins no other.
+const BROKEN: Files = Files {
+    messages: b"{1:F01HOMEUS33AXXX0001000007}{2:O1031200240603ALPHDEFFAXXX00010000012406031205N}{4:\r\n:20:REF1\r\n:23B:CRED\r\n:32A:240603EUR9,5\r\n:50K:A PAYER\r\n:59:/CUST\r\nA PAYEE\r\n:71A:SHA\r\n-}$x",
+    ..FILES
+};
+
+// Whether a run of so many workers tells where its file can't be cut, and writes nothing.
+fn is_uncut<R: Wait + Threads + Sync>(
+    rt: &R,
+    alloc: Global,
+    journal: &Text,
+    workers: &[u8],
+) -> Result<bool, Memory> {
+    let words: [&[u8]; 3] = [b"run", b"240603", workers];
+    let disk = long_lived(alloc, journal.bytes())?;
+    let ended = call(rt, alloc, &words, WHOLE, BROKEN, disk)?;
+    let place = Status::Framing {
+        at: BROKEN.messages.len() as u64 - 1,
+    };
+    Ok(ended.status == place && ended.report.bytes().is_empty() && ended.out.bytes().is_empty())
+}
+
+#[test]
+fn a_file_that_cannot_be_cut_ends_a_run(rt: HostRuntime) -> Result<(), Fail> {
+    let journal = journal(&rt, rt.alloc(), FILES)?;
+    assert!(rt; is_uncut(&rt, rt.alloc(), &journal, b"1")?);
+    assert!(rt; is_uncut(&rt, rt.alloc(), &journal, b"4")?);
+    Ok(())
+}

@@ -3,7 +3,7 @@ use Rattle.std.specs.Prelude.{is_some}
 use Rattle.day_model.specs.Fit.{legs_fit}
 use Rattle.day_model.specs.Next.{entered_at}
 use Rattle.day_model.specs.declared.entry.Entry.{Entry}
-use Rattle.calls_statements.specs.Grown.{IsGrown}
+use Rattle.calls_statements.specs.inner.Grown.{IsGrown}
 use Rattle.calls_statements.proofs.Growing.{grown-more, takes-next}
 use Rattle.calls_statements.proofs.given.enter.Goals as goal
 

@@ -1,4 +1,4 @@
-use Rattle.calls_statements.specs.Grown.{IsGrown}
+use Rattle.calls_statements.specs.inner.Grown.{IsGrown}
 use Rattle.calls_statements.proofs.given.grown.Given as goal
 
 abbrev pub invariant-loop-number : goal.invariant-loop-number
