@@ -8,8 +8,9 @@ use Rattle.atomic_table.proofs.Lists.{at_set, set_here, set_else, set_again, at_
 use Rattle.acct_locks.specs.declared.seats.View.{View}
 use Rattle.acct_locks.specs.declared.seats.View.TheVariants.{Book, Purse, Spent}
 use Rattle.day_model.specs.Totals.{Pair, pair_at}
-use Rattle.day_model.specs.Pairs.{with_pair}
-use Rattle.acct_locks.specs.Seats.{IsIn, without, IsBookSeat, IsPurse, pairs_in, away_in, handed_out, took_back, KeepsRight, KeptBy, RuleIsKept, Looked}
+use Rattle.day_model.specs.inner.Pairs.{with_pair}
+use Rattle.acct_locks.specs.Seats.{IsBookSeat, pairs_in}
+use Rattle.acct_locks.specs.inner.Seats.{IsIn, without, IsPurse, away_in, handed_out, took_back, KeepsRight, KeptBy, RuleIsKept, Looked}
 use Rattle.day_model.proofs.laws.PairLists.{there_is}
 use Rattle.acct_locks.proofs.Places.{get_within, get_snoc, pair_here, pair_else, not_without, without_else}
 

@@ -5,8 +5,10 @@ use Rattle.atomic_table.specs.Seated.{TableId}
 use Rattle.acct_locks.specs.declared.seats.View.{View}
 use Rattle.acct_locks.specs.declared.seats.View.TheVariants.{Book, Purse, Spent}
 use Rattle.day_model.specs.Totals.{Pair, pair_at}
-use Rattle.acct_locks.specs.Seats.{IsIn, IsBookSeat, pairs_in, away_in, handed_out}
-use Rattle.acct_locks.specs.Holdings.{AwayUpTo, Holding, purse_at, purses_from}
+use Rattle.acct_locks.specs.Seats.{IsBookSeat, pairs_in}
+use Rattle.acct_locks.specs.inner.Seats.{IsIn, away_in, handed_out}
+use Rattle.acct_locks.specs.Holdings.{Holding, purse_at, purses_from}
+use Rattle.acct_locks.specs.inner.Holdings.{AwayUpTo}
 use Rattle.acct_locks.proofs.Places.{pair_same}
 
 pub in_away : (n m : ℕ) (aw : List ℕ) → AwayUpTo n aw → IsIn m aw → m ≤ n

@@ -6,8 +6,8 @@ use Rattle.std.proofs.lemmas.Bool.Decides.{nat_tests}
 use mathlib.Core.Option.{some, some-injective, some-ne-none}
 use lib.ListN.{get_elem?}
 use Rattle.day_model.specs.Totals.{Pair, pair_at}
-use Rattle.day_model.specs.Pairs.{with_pair}
-use Rattle.acct_locks.specs.Seats.{IsIn, without}
+use Rattle.day_model.specs.inner.Pairs.{with_pair}
+use Rattle.acct_locks.specs.inner.Seats.{IsIn, without}
 
 module _ {A : Type 0} where
   pub get_within : (l : List A) (i : ℕ) (a : A) → get_elem? l i ≡ some a → i < length l

@@ -4,8 +4,10 @@ ghost use Rattle.std.specs.Prelude.{◌≡◌, ◌<◌, ◌^◌, ◌+◌, ℕ, [
 ghost use Rattle.day_model.specs.Chart.{accounts_of};
 ghost use Rattle.day_model.specs.Legal.{IsLegal};
 ghost use Rattle.day_model.specs.Totals.{HasTotals, pair_at};
-ghost use Rattle.acct_locks.specs.Seats.{IsBookSeat, pairs_in, away_in};
-ghost use Rattle.acct_locks.specs.Holdings.{AwayUpTo, purse_at, purses_of};
+ghost use Rattle.acct_locks.specs.Seats.{IsBookSeat, pairs_in};
+ghost use Rattle.acct_locks.specs.inner.Seats.{away_in};
+ghost use Rattle.acct_locks.specs.Holdings.{purse_at, purses_of};
+ghost use Rattle.acct_locks.specs.inner.Holdings.{AwayUpTo};
 
 use crate::name::Name;
 use crate::purse::Purse;

@@ -2,7 +2,8 @@
 
 ghost use Rattle.std.specs.Prelude.{◌≡◌, ◌<◌, [], ◌∷◌, Some};
 ghost use Rattle.day_model.specs.Totals.{Fits64, leg_pair, pair_at, plus};
-ghost use Rattle.day_model.specs.Pairs.{pairs_with, with_pair};
+ghost use Rattle.day_model.specs.Pairs.{pairs_with};
+ghost use Rattle.day_model.specs.inner.Pairs.{with_pair};
 
 use crate::seats::{SeatTable, View};
 use crate::sides::BookSides;

@@ -21,7 +21,7 @@ pub struct Agreement;
 impl TableRule<u8, View, Vec<(u64, u64)>> for Agreement {
     ghost use Rattle.std.specs.Prelude.{[], None};
     ghost use Rattle.acct_locks.specs.declared.seats.View.TheVariants.{Book};
-    ghost use Rattle.acct_locks.specs.Seats.{RuleIsKept};
+    ghost use Rattle.acct_locks.specs.inner.Seats.{RuleIsKept};
 
     ghost holds = { λ first s. RuleIsKept s };
 
@@ -32,7 +32,7 @@ impl TableRule<u8, View, Vec<(u64, u64)>> for Agreement {
 pub struct Look;
 
 impl Play<u8, View> for Look {
-    ghost use Rattle.acct_locks.specs.Seats.{Looked};
+    ghost use Rattle.acct_locks.specs.inner.Seats.{Looked};
 
     ghost then = { Looked };
 }
@@ -57,7 +57,7 @@ pub struct HandOut<K: Handing>(PhantomData<K>);
 
 impl<K: Handing> Split<View> for HandOut<K> {
     ghost use Rattle.acct_locks.specs.declared.seats.View.TheVariants.{Purse};
-    ghost use Rattle.acct_locks.specs.Seats.{handed_out};
+    ghost use Rattle.acct_locks.specs.inner.Seats.{handed_out};
 
     ghost left = { handed_out K.account K.pair };
 
@@ -69,7 +69,7 @@ pub struct TakeBack;
 
 impl Join<View> for TakeBack {
     ghost use Rattle.acct_locks.specs.declared.seats.View.TheVariants.{Spent};
-    ghost use Rattle.acct_locks.specs.Seats.{took_back};
+    ghost use Rattle.acct_locks.specs.inner.Seats.{took_back};
 
     ghost both = { took_back };
 

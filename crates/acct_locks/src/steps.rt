@@ -2,7 +2,8 @@
 
 ghost use Rattle.std.specs.Prelude.{◌≡◌, ◌<◌, ◌≤◌, [], length, IfOk, None};
 ghost use Rattle.acct_locks.specs.declared.seats.View.TheVariants.{Book, Purse};
-ghost use Rattle.acct_locks.specs.Seats.{IsBookSeat, IsPurse, IsIn, pairs_in, away_in, handed_out, took_back, KeepsRight};
+ghost use Rattle.acct_locks.specs.Seats.{IsBookSeat, pairs_in};
+ghost use Rattle.acct_locks.specs.inner.Seats.{IsPurse, IsIn, away_in, handed_out, took_back, KeepsRight};
 
 use crate::seats::{HandOut, Handing, Look, SeatOf, SeatTable, TakeBack};
 use corr_text::Memory;

@@ -4,7 +4,8 @@ use Rattle.std.proofs.lemmas.List.{length-take-le, take_more}
 use Rattle.day_model.specs.Chart.{Chart}
 use Rattle.day_model.specs.declared.pay.Order.{Order}
 use Rattle.day_model.specs.declared.pay.Pay.{Pay}
-use Rattle.advices.specs.Messages.{AllReadBack, OrderReadsBack, order_message, messages_from}
+use Rattle.advices.specs.Messages.{order_message, messages_from}
+use Rattle.advices.specs.inner.Messages.{AllReadBack, OrderReadsBack}
 
 module _ (chart : Chart) (pay : Pay) (place : ℕ) where
   messages-append : (k n : ℕ) (orders : List Order) (order : Order) → n ≡ k + length orders

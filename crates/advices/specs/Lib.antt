@@ -1,10 +1,10 @@
 pub mod Fields
 pub mod Received
 pub mod Legs
-pub mod Spelled
 pub mod Valid
 pub mod Transfer
 pub mod Cover
 pub mod Pass
 pub mod Advice
 pub mod Messages
+pub mod inner

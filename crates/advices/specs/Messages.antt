@@ -1,13 +1,10 @@
 -- The messages that are sent of an entry.
-use Rattle.std.specs.Prelude.{◌≡◌, ℕ, ◌+◌, List, [], ◌∷◌, Option, Some, None, Ok, codes, if◌then◌else◌}
+use Rattle.std.specs.Prelude.{ℕ, ◌+◌, List, [], ◌∷◌, Option, Some, None, codes, if◌then◌else◌}
 use Rattle.std.specs.Option.{option_map_or}
 use Rattle.corr_ids.specs.declared.bic.Bic.{Bic}
 use Rattle.corr_ids.specs.declared.uetr.Uetr.{Uetr}
 use Rattle.corr_money.specs.declared.amount.Amount.{Amount}
-use Rattle.fin_blocks.specs.Blocks.{blocks_of}
-use Rattle.fin_blocks.specs.Sending.{sent_blocks, sent_text}
-use Rattle.fin_fields.specs.Faults.{field_fault}
-use Rattle.fin_fields.specs.Fields.{fields_of}
+use Rattle.fin_blocks.specs.Sending.{sent_text}
 use Rattle.fin_fields.specs.Writing.{fields_text}
 use Rattle.fin_fields.specs.declared.field.Field.{Field}
 use Rattle.day_model.specs.Balance.{is_booked}
@@ -97,20 +94,3 @@ messages_from chart pay place k (order ∷ orders) = order_message chart pay pla
 -- the messages of the entry at a place: those of a booked one in the order of its orders, none of another
 abbrev pub messages_of : Chart → Entry → ℕ → List (List ℕ)
 messages_of chart entry place = if is_booked entry.outcome then messages_from chart entry.pay place 1 entry.pay.orders else []
-
--- ---- read again
-
--- a message is read into the blocks that it was written of, and its lines are cut into its fields
-pub record ReadsBack (home : Bic) (mt : ℕ) (to : Bic) (user : List (ℕ × List ℕ)) (fs : List Field) : Type 0 where
-  pub blocks : blocks_of (sent_text home mt to user (fields_text fs)) ≡ Ok (sent_blocks home mt to user (fields_text fs))
-  pub cut : field_fault (fields_text fs) ≡ None
-  pub fields : fields_of (fields_text fs) ≡ fs
-
--- so the message of the k-th order
-abbrev pub OrderReadsBack : Chart → Pay → ℕ → ℕ → Order → Type 0
-OrderReadsBack chart pay place k order = ReadsBack chart.home (order_type order) (receiver_of order) (order_user pay.uetr order) (order_fields chart pay place k order)
-
--- and those of orders in turn
-abbrev pub AllReadBack : Chart → Pay → ℕ → ℕ → List Order → Type 0
-AllReadBack chart pay place k [] = Unit {0}
-AllReadBack chart pay place k (order ∷ orders) = OrderReadsBack chart pay place k order × AllReadBack chart pay place (k + 1) orders

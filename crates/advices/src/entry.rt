@@ -8,7 +8,8 @@ ghost use Rattle.day_model.specs.Chart.{IsChart};
 ghost use Rattle.day_model.specs.Fit.{FitsAccounts};
 ghost use Rattle.day_model.specs.Shape.{HasShape, IsOrder};
 ghost use Rattle.day_model.specs.Log.{most_entries};
-ghost use Rattle.advices.specs.Messages.{AllReadBack, OrderReadsBack, order_message, messages_from, messages_of, order_fields};
+ghost use Rattle.advices.specs.Messages.{order_message, messages_from, messages_of, order_fields};
+ghost use Rattle.advices.specs.inner.Messages.{AllReadBack, OrderReadsBack};
 ghost use Rattle.advices.specs.Received.{received_of};
 ghost use Rattle.advices.specs.Valid.{AreAccepted, NoticesAccepted};
 

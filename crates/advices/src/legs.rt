@@ -5,7 +5,7 @@ ghost use Rattle.day_model.specs.Chart.{IsChart, IsFormed};
 ghost use Rattle.day_model.specs.Fit.{FitsAccounts};
 ghost use Rattle.day_model.specs.Shape.{IsNumbered};
 ghost use Rattle.advices.specs.Legs.{charge_of, debited_amount, leg_account, leg_amount};
-ghost use Rattle.advices.specs.Spelled.{IsWritableAmount};
+ghost use Rattle.advices.specs.inner.Spelled.{IsWritableAmount};
 
 use corr_money::{Amount, Minor};
 use day_model::{Account, Accounts, Kind, Leg, Pay, Side, legs_sum};

@@ -3,7 +3,7 @@
 ghost use Rattle.std.specs.Prelude.{◌≡◌, ◌<◌, ◌≤◌, IfSome, drop, length, take};
 ghost use Rattle.corr_money.specs.Amounts.{amount_end, amount_of, most_decimals};
 ghost use Rattle.advices.specs.Received.{amount_if, amount_in, minor_if, ordered_of};
-ghost use Rattle.advices.specs.Spelled.{IsWritableAmount};
+ghost use Rattle.advices.specs.inner.Spelled.{IsWritableAmount};
 
 use crate::copying::first_named;
 use crate::received::Received;

@@ -4,7 +4,8 @@ ghost use Rattle.std.specs.Prelude.{◌≡◌, ◌≢◌, ◌≤◌, ◌++◌, [
 ghost use Rattle.corr_ids.specs.Bic.{IsBic};
 ghost use Rattle.fin_blocks.specs.Sending.{are_subblocks, sent_text};
 ghost use Rattle.fin_fields.specs.Writing.{IsField, fields_text};
-ghost use Rattle.advices.specs.Messages.{ReadsBack, receiver_of, order_type, uetr_block, order_user};
+ghost use Rattle.advices.specs.Messages.{receiver_of, order_type, uetr_block, order_user};
+ghost use Rattle.advices.specs.inner.Messages.{ReadsBack};
 
 use corr_ids::{Bic, Uetr};
 use corr_text::{List, Memory, Text};

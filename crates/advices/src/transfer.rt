@@ -4,7 +4,7 @@ ghost use Rattle.std.specs.Prelude.{◌≡◌, ◌++◌, [], IfOk, IfSome, OnOk,
 ghost use Rattle.fin_layout.specs.Segments.{joined};
 ghost use Rattle.fin_contents.specs.Writing.{IsAmount, IsValue, ccy_amount_field, some_field};
 ghost use Rattle.advices.specs.Fields.{bank_field, copied_all, is_named, kept};
-ghost use Rattle.advices.specs.Spelled.{IsWritableAmount};
+ghost use Rattle.advices.specs.inner.Spelled.{IsWritableAmount};
 ghost use Rattle.advices.specs.Transfer.{account_bank, detail_fields, has_code, passed_instructions, intermediary, is_passed_on, ordered_amount, party_fields, taken_fields, tells_account_bank, tells_intermediary, term_fields, transfer_fields};
 
 use crate::copying::{bank_field, first_named, is_named, push_copied};

@@ -5,7 +5,8 @@ use Rattle.std.proofs.lemmas.Bool.Decides.{nat_tests}
 use Rattle.std.specs.List.{position, position_or_len}
 use Rattle.std.proofs.lemmas.List.Quantifiers.{position-Some}
 use Rattle.std.proofs.lemmas.List.Sums.{fails_before_first}
-use Rattle.corr_text.specs.Lines.{lines_of, trimmed}
+use Rattle.corr_text.specs.Lines.{lines_of}
+use Rattle.corr_text.specs.inner.Lines.{trimmed}
 
 pub trimmed-return : (xs : List ℕ) (n : ℕ) → length xs ≡ n + 1 → get_or xs n 0 ≡ 13 → trimmed xs ≡ take n xs
 trimmed-return [] n e h = absurd (omega (arith, e))

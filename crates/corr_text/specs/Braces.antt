@@ -8,7 +8,3 @@ is_brace b = b == 123 || b == 125
 -- how many braces are open after this byte
 abbrev pub depth_after : ℕ → ℕ → ℕ
 depth_after depth b = if b == 123 then depth + 1 else if b == 125 then depth - 1 else depth
-
--- 1 for true
-abbrev pub one_if : Bool → ℕ
-one_if b = if b then 1 else 0

@@ -8,3 +8,4 @@ pub mod Braces
 pub mod Codes
 pub mod Answers
 pub mod Slashes
+pub mod inner

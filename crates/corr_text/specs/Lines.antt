@@ -18,9 +18,3 @@ lines_of (b ∷ bs) =
     if b == 10 then [] ∷ lines_of bs
     else if (b == 13) && begins_with 10 bs then lines_of bs
     else with_byte b (lines_of bs)
-
--- a line without the carriage return at its end
-abbrev pub trimmed : List ℕ → List ℕ
-trimmed [] = []
-trimmed (b ∷ []) = if b == 13 then [] else b ∷ []
-trimmed (b ∷ c ∷ cs) = b ∷ trimmed (c ∷ cs)

@@ -2,7 +2,8 @@
 
 ghost use Rattle.std.specs.Prelude.{◌≡◌, ◌<◌, ◌≤◌, ℕ, length, slice_index, true, false};
 ghost use Rattle.std.specs.List.{list_any};
-ghost use Rattle.corr_text.specs.Braces.{is_brace, one_if};
+ghost use Rattle.corr_text.specs.Braces.{is_brace};
+ghost use Rattle.corr_text.specs.inner.Braces.{one_if};
 
 /// How many bytes are tested at once where braces are far, and where one is near.
 const FAR: usize = 32;

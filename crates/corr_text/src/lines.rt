@@ -2,7 +2,8 @@
 
 ghost use Rattle.std.specs.Prelude.{◌≡◌, ◌==◌, ◌<◌, ◌≤◌, ◌+◌, ◌≢◌, [], ◌∷◌, false, not, length, take, drop, IfSome};
 ghost use Rattle.std.specs.List.{list_any, position};
-ghost use Rattle.corr_text.specs.Lines.{lines_of, trimmed};
+ghost use Rattle.corr_text.specs.Lines.{lines_of};
+ghost use Rattle.corr_text.specs.inner.Lines.{trimmed};
 ghost use Rattle.corr_text.specs.Sets.{is_x_byte};
 
 use crate::set::is_x;

@@ -6,7 +6,8 @@ use Rattle.std.proofs.lemmas.Bool.{and_parts, or_parts}
 use Rattle.std.proofs.lemmas.Bool.Decides.{nat_tests}
 use Rattle.std.proofs.lemmas.List.{take_more, take-append-drop}
 use Rattle.corr_text.specs.Braces.{is_brace, depth_after}
-use Rattle.fin_blocks.specs.Groups.{group_with_byte, groups_from, groups_of, IsCut}
+use Rattle.fin_blocks.specs.Groups.{group_with_byte, groups_from, groups_of}
+use Rattle.fin_blocks.specs.inner.Groups.{IsCut}
 use Rattle.fin_blocks.specs.Forms.{is_plain}
 use Rattle.fin_blocks.proofs.Cutting.{with_bytes, with_bytes-push, with_bytes-group, step, closes}
 

@@ -5,7 +5,8 @@ use Rattle.std.proofs.lemmas.Bool.{or_parts}
 use Rattle.std.proofs.lemmas.Bool.Decides.{nat_tests}
 use Rattle.std.proofs.lemmas.List.{take_more, drop_more, drop_all}
 use Rattle.corr_text.specs.Braces.{is_brace, depth_after}
-use Rattle.fin_blocks.specs.Groups.{group_with_byte, groups_from, groups_of, IsCut}
+use Rattle.fin_blocks.specs.Groups.{group_with_byte, groups_from, groups_of}
+use Rattle.fin_blocks.specs.inner.Groups.{IsCut}
 
 -- bytes put before the first group
 abbrev pub with_bytes : List ℕ → List (Option (List ℕ)) → List (Option (List ℕ))

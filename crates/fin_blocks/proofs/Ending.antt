@@ -1,7 +1,8 @@
 -- What may stand last.
 use Rattle.std.proofs.Common.{◌≡◌, ℕ, ◌<◌, true, false, List, ◌∷◌, length, refl, sym, ap, ◌∙◌}
 use Rattle.std.specs.Prelude.{Option, Some, None, is_some, option_map, codes}
-use Rattle.fin_blocks.specs.Groups.{groups_of, groups_after, IsCut}
+use Rattle.fin_blocks.specs.Groups.{groups_of, groups_after}
+use Rattle.fin_blocks.specs.inner.Groups.{IsCut}
 use Rattle.fin_blocks.specs.Forms.{inside}
 use Rattle.fin_blocks.specs.Blocks.{are_last}
 use Rattle.fin_blocks.proofs.Pieces.{groups-some, groups-none}

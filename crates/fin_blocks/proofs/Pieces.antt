@@ -5,7 +5,8 @@ use Rattle.std.proofs.lemmas.List.{append-nil}
 use Rattle.std.proofs.lemmas.Bool.{cases_Bool}
 use Rattle.std.specs.Prelude.{◌==◌}
 use Rattle.corr_text.specs.Braces.{depth_after}
-use Rattle.fin_blocks.specs.Groups.{group_with_byte, groups_from, groups_of, next_group, groups_after, IsCut}
+use Rattle.fin_blocks.specs.Groups.{group_with_byte, groups_from, groups_of, next_group, groups_after}
+use Rattle.fin_blocks.specs.inner.Groups.{IsCut}
 use Rattle.fin_blocks.specs.Forms.{each_of}
 
 -- bytes have a next group

@@ -1,5 +1,5 @@
 -- Groups: a `{` up to its matching `}`.
-use Rattle.std.specs.Prelude.{◌≡◌, ℕ, ◌==◌, List, [], ◌∷◌, Option, Some, None, if◌then◌else◌}
+use Rattle.std.specs.Prelude.{ℕ, ◌==◌, List, [], ◌∷◌, Option, Some, None, if◌then◌else◌}
 use Rattle.corr_text.specs.Braces.{depth_after}
 
 -- a byte put before the first group; one that is never closed stays none
@@ -28,8 +28,3 @@ next_group (group ∷ groups) = group
 abbrev pub groups_after : List (Option (List ℕ)) → List (Option (List ℕ))
 groups_after [] = []
 groups_after (group ∷ groups) = groups
-
--- bytes cut after their next group
-pub record IsCut (from : List ℕ) (group : Option (List ℕ)) (rest : List ℕ) : Type 0 where
-  pub group_is_next : group ≡ next_group (groups_of from)
-  pub rest_is_after : groups_of rest ≡ groups_after (groups_of from)

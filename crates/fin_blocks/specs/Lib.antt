@@ -4,3 +4,4 @@ pub mod User
 pub mod Text
 pub mod Blocks
 pub mod Sending
+pub mod inner

@@ -3,7 +3,7 @@
 ghost use Rattle.std.specs.Prelude.{◌≡◌, ◌≢◌, ◌<◌, ◌≤◌, ◌+◌, ◌-◌, ◌^◌, [], get_or, length, option_map, true, false};
 ghost use Rattle.std.specs.List.{list_any, slice_range};
 ghost use Rattle.corr_text.specs.Braces.{depth_after as depth_of, is_brace};
-ghost use Rattle.fin_blocks.specs.Groups.{IsCut};
+ghost use Rattle.fin_blocks.specs.inner.Groups.{IsCut};
 
 use corr_text::{has_brace, next_brace};
 

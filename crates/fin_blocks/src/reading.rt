@@ -2,7 +2,8 @@
 
 ghost use Rattle.std.specs.Prelude.{◌≡◌, ◌≤◌, ◌<◌, ◌*◌, Err, IfErr, IfOk, Ok, OnOk, Some, length, option_map};
 ghost use Rattle.corr_text.specs.Lines.{lines_of};
-ghost use Rattle.fin_blocks.specs.Groups.{IsCut, groups_of};
+ghost use Rattle.fin_blocks.specs.Groups.{groups_of};
+ghost use Rattle.fin_blocks.specs.inner.Groups.{IsCut};
 ghost use Rattle.fin_blocks.specs.Forms.{when};
 ghost use Rattle.fin_blocks.specs.Blocks.{AreNamed, Tells, are_last as are_last_of, blocks_of, ending_of, groups_past as past_of};
 

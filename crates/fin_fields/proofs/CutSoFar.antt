@@ -3,7 +3,8 @@ use Rattle.std.proofs.Common.{◌≡◌, ◌≢◌, ℕ, ◌+◌, ◌≤◌, ◌
 use Rattle.std.specs.List.{list_any}
 use Rattle.std.proofs.lemmas.List.{append-nil}
 use Rattle.fin_fields.specs.declared.field.Field.{Field}
-use Rattle.fin_fields.specs.Fields.{Grouped, Heading, field_begun, grouped, heading_of, so_far, with_line}
+use Rattle.fin_fields.specs.Fields.{Grouped, Heading, field_begun, grouped, heading_of, with_line}
+use Rattle.fin_fields.specs.inner.Fields.{so_far}
 use Rattle.fin_fields.specs.Faults.{has_other_byte, is_misplaced}
 use Rattle.fin_fields.proofs.laws.Positions.{position-here, position-later}
 

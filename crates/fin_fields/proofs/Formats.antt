@@ -5,7 +5,8 @@ use Rattle.std.proofs.lemmas.Bool.Decides.{nat_tests}
 use Rattle.corr_text.specs.Sets.{is_in}
 use Rattle.fin_fields.specs.declared.pattern.Pattern.{Pattern}
 use Rattle.fin_fields.specs.declared.pattern.Pattern.TheVariants.{Lines, Fixed, UpTo}
-use Rattle.fin_fields.specs.Patterns.{fits_count, fits_line, is_one_line, is_run, meets}
+use Rattle.fin_fields.specs.Patterns.{is_one_line, is_run, meets}
+use Rattle.fin_fields.specs.inner.Patterns.{fits_count, fits_line}
 
 and-true : (b : Bool) → (b && true) ≡ b
 and-true true = refl

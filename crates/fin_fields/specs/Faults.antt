@@ -1,5 +1,5 @@
 -- The first fault of a text: its lines, then its bytes.
-use Rattle.std.specs.Prelude.{◌≡◌, ℕ, ◌+◌, ◌/◌, ◌%◌, ◌==◌, ◌&&◌, ◌||◌, not, Bool, true, false, List, [], ◌∷◌, take, position, slice_get, count_by, Option, Some, None, option_map, option_and_then, unwrap_or, if◌then◌else◌, is_some}
+use Rattle.std.specs.Prelude.{ℕ, ◌+◌, ◌/◌, ◌%◌, ◌==◌, ◌&&◌, ◌||◌, not, Bool, true, false, List, [], ◌∷◌, take, position, slice_get, count_by, Option, Some, None, option_map, option_and_then, unwrap_or, if◌then◌else◌, is_some}
 use Rattle.std.specs.List.{list_any}
 use Rattle.corr_text.specs.Answers.{Tells}
 use Rattle.corr_text.specs.Sets.{is_x_byte}
@@ -73,9 +73,3 @@ told (P21 tag nth) = Some (P21 tag nth)
 -- a fault that is told is the first of the text, or out of memory
 abbrev pub TellsFieldFault : List ℕ → FieldFault → Type 0
 TellsFieldFault text e = Tells told (field_fault text) e
-
--- a fault of lines that is told is that of this line, or out of memory
-abbrev pub TellsLineFault : Option ℕ → FieldFault → Type 0
-TellsLineFault faulty Memory = Unit {0}
-TellsLineFault faulty (P20 line) = faulty ≡ Some line
-TellsLineFault faulty (P21 tag nth) = ⊥

@@ -1,5 +1,5 @@
 -- Lines as fields.
-use Rattle.std.specs.Prelude.{ℕ, ◌+◌, ◌-◌, ◌*◌, ◌==◌, ◌&&◌, List, [], ◌∷◌, ◌++◌, Option, Some, None, if◌then◌else◌}
+use Rattle.std.specs.Prelude.{ℕ, ◌+◌, ◌-◌, ◌*◌, ◌==◌, ◌&&◌, List, [], ◌∷◌, Option, Some, None, if◌then◌else◌}
 use Rattle.std.specs.Char.{is_ascii_digit, is_ascii_uppercase}
 use Rattle.fin_fields.specs.declared.field.Field.{Field}
 use Rattle.corr_text.specs.Lines.{lines_of}
@@ -55,9 +55,3 @@ grouped (line ∷ lines) = with_line line (heading_of line) (grouped lines)
 -- the fields of a text
 abbrev pub fields_of : List ℕ → List Field
 fields_of text = (grouped (lines_of text)).fields
-
--- fields of which the last is open, and what groups of further lines make of them
-abbrev pub so_far : List Field → Grouped → List Field
-so_far [] g = g.fields
-so_far (f ∷ []) g = record f { lines = f.lines ++ g.continued } ∷ g.fields
-so_far (f ∷ next ∷ fields) g = f ∷ so_far (next ∷ fields) g

@@ -4,3 +4,4 @@ pub mod Headings
 pub mod Faults
 pub mod Patterns
 pub mod Writing
+pub mod inner

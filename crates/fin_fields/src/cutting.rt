@@ -3,10 +3,12 @@
 ghost use Rattle.std.specs.Prelude.{◌≡◌, ◌≢◌, ◌≤◌, ◌<◌, ◌+◌, [], ◌∷◌, None, true, false, All, IfOk, IfErr, OnOk, length, not, option_map, position};
 ghost use Rattle.std.specs.List.{list_any};
 ghost use Rattle.corr_text.specs.Lines.{lines_of};
-ghost use Rattle.fin_fields.specs.Fields.{Grouped, fields_of, field_begun, grouped, heading_of, so_far, with_line, most_text_lines};
+ghost use Rattle.fin_fields.specs.Fields.{Grouped, fields_of, field_begun, grouped, heading_of, with_line, most_text_lines};
+ghost use Rattle.fin_fields.specs.inner.Fields.{so_far};
 ghost use Rattle.fin_fields.specs.Headings.{heading_in};
 ghost use Rattle.fin_fields.specs.Writing.{IsField};
-ghost use Rattle.fin_fields.specs.Faults.{faulty_line, field_fault, has_other_byte, is_misplaced, TellsFieldFault, TellsLineFault};
+ghost use Rattle.fin_fields.specs.Faults.{faulty_line, field_fault, has_other_byte, is_misplaced, TellsFieldFault};
+ghost use Rattle.fin_fields.specs.inner.Faults.{TellsLineFault};
 
 use crate::fault::FieldFault;
 use crate::field::Field;

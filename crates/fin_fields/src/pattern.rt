@@ -5,7 +5,8 @@ ghost use Rattle.std.specs.List.{list_all, list_any};
 ghost use Rattle.corr_text.specs.Sets.{is_in};
 ghost use Rattle.corr_text.specs.declared.set.Set.TheVariants.{X};
 ghost use Rattle.fin_fields.specs.Faults.{has_other_byte};
-ghost use Rattle.fin_fields.specs.Patterns.{fits_count, fits_line, is_run, is_short, meets};
+ghost use Rattle.fin_fields.specs.Patterns.{is_run, meets};
+ghost use Rattle.fin_fields.specs.inner.Patterns.{fits_count, fits_line, is_short};
 ghost use Rattle.fin_fields.specs.declared.pattern.Pattern.TheVariants.{Lines};
 
 use crate::field::Field;

@@ -1,7 +1,7 @@
 -- The end of a file.
 use Rattle.std.proofs.Common.{◌≡◌, ℕ, List, [], ◌++◌, Option, Some, None, Result, Ok, Err, refl, ap, sym, ◌∙◌, subst}
 use Rattle.std.proofs.lemmas.List.{append-nil}
-use Rattle.fin_frame.specs.Machine.{with_open, unbalanced_at}
+use Rattle.fin_frame.specs.inner.Machine.{with_open, unbalanced_at}
 use Rattle.fin_frame.specs.Cutting.{WasFed, EndsInput, IsWholeFile, IsUnbalanced}
 use Rattle.fin_frame.specs.declared.cutter.Cutter.{Cutter}
 use Rattle.fin_frame.specs.declared.fault.FrameFault.{FrameFault}

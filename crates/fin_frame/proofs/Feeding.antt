@@ -2,7 +2,7 @@
 use Rattle.std.proofs.Common.{◌≡◌, ◌≤◌, ℕ, ◌+◌, List, [], ◌++◌, length, take, drop, Some, None, Err, refl, ap, sym, ◌∙◌, arith, subst, append_assoc, length-append}
 use Rattle.std.proofs.lemmas.List.{append-nil, take-append-drop, length-take-le}
 use Rattle.fin_frame.specs.Shown.{Begins}
-use Rattle.fin_frame.specs.Machine.{State, at_start, fails, run, state_of, HasCome, HasTaken, HasTakenAll}
+use Rattle.fin_frame.specs.inner.Machine.{State, at_start, fails, run, state_of, HasCome, HasTaken, HasTakenAll}
 use Rattle.fin_frame.specs.Cutting.{Knows, WasFed}
 use Rattle.fin_frame.specs.declared.cutter.Cutter.{Cutter}
 use Rattle.fin_frame.specs.declared.fault.FrameFault.{FrameFault}

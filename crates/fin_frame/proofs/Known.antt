@@ -5,7 +5,7 @@ use Rattle.fin_frame.specs.File.{lead, IsFileOf, IsCutInto}
 use Rattle.fin_frame.specs.File.IsFileOf.{more as file_more}
 use Rattle.fin_frame.specs.Shown.{Shows, ShowsNoFault, EndsWithin, AreWhole, Begins, HaveBegun}
 use Rattle.fin_frame.specs.Shown.EndsWithin.{inside as ends_inside, after as ends_after, apart as ends_apart}
-use Rattle.fin_frame.specs.Machine.{State, at_start, state_of, with_open, run, unbalanced_at, HasCome}
+use Rattle.fin_frame.specs.inner.Machine.{State, at_start, state_of, with_open, run, unbalanced_at, HasCome}
 use Rattle.fin_frame.specs.Cutting.{IsShown, Knows, LeavesOff, WasFed, IsWholeFile, IsUnbalanced}
 use Rattle.fin_frame.specs.Cutting.LeavesOff.{between as leaves_between, opening as leaves_opening, inside as leaves_inside, after as leaves_after}
 use Rattle.fin_frame.specs.declared.cutter.Cutter.{Cutter}

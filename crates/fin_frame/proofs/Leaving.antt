@@ -3,7 +3,7 @@ use Rattle.std.proofs.Common.{◌≡◌, ◌≤◌, ◌⊎◌, ℕ, zero, suc, �
 use Rattle.std.proofs.lemmas.List.{append-nil}
 use Rattle.fin_frame.specs.File.{lead}
 use Rattle.fin_frame.specs.Shown.{is_marked, stands_apart, ShowsNoFault, AreWhole, Begins, HasBegun, HaveBegun}
-use Rattle.fin_frame.specs.Machine.{State, at_start, run, state_of}
+use Rattle.fin_frame.specs.inner.Machine.{State, at_start, run, state_of}
 use Rattle.fin_frame.specs.Cutting.{IsShown, Knows, LeavesOff, WasFed}
 use Rattle.fin_frame.specs.Cutting.LeavesOff.{between as leaves_between, opening as leaves_opening, inside as leaves_inside, after as leaves_after}
 use Rattle.fin_frame.specs.declared.cutter.Cutter.{Cutter}

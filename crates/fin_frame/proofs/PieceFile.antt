@@ -12,10 +12,11 @@ use Rattle.fin_frame.specs.Shown.{is_marked, is_over, no_more, stands_apart, can
 use Rattle.fin_frame.specs.Shown.Shows.{stray as shows_stray, long as shows_long}
 use Rattle.fin_frame.specs.Shown.EndsWithin.{inside as ends_inside, after as ends_after, apart as ends_apart}
 use Rattle.fin_frame.specs.Cutting.LeavesOff.{between as leaves_between, opening as leaves_opening, inside as leaves_inside, after as leaves_after}
-use Rattle.fin_frame.specs.Whole.{is_led, has_group, gap_goes_on, IsPart, EndsOpen, RunsOver}
-use Rattle.fin_frame.specs.Whole.EndsOpen.{inside as ends_open_inside, after as ends_open_after}
+use Rattle.fin_frame.specs.Whole.{is_led}
+use Rattle.fin_frame.specs.inner.Whole.{has_group, gap_goes_on, IsPart, EndsOpen, RunsOver}
+use Rattle.fin_frame.specs.inner.Whole.EndsOpen.{inside as ends_open_inside, after as ends_open_after}
 use Rattle.fin_frame.specs.Pieces.{at_place, at_places, HasTakenFile, HasAll, AreAll, IsFaulty, IsPlaceIn}
-use Rattle.fin_frame.specs.Next.{AreFaulty, IsUnfinished}
+use Rattle.fin_frame.specs.inner.Next.{AreFaulty, IsUnfinished}
 use Rattle.fin_frame.specs.declared.fault.FrameFault.TheVariants.{Stray, TooLong}
 use Rattle.fin_frame.specs.declared.pieces.PieceCutter.{PieceCutter}
 use Rattle.fin_frame.specs.declared.place.Place.{Place}

@@ -2,7 +2,7 @@
 use Rattle.std.proofs.Common.{◌≡◌, ℕ, ◌+◌, true, List, [], ◌++◌, length, take, Some, None, refl, ap, sym, ◌∙◌, arith, subst, length-append}
 use Rattle.std.proofs.lemmas.List.{append-nil}
 use Rattle.fin_frame.specs.File.{lead}
-use Rattle.fin_frame.specs.Machine.{State, at_start, run, state_of}
+use Rattle.fin_frame.specs.inner.Machine.{State, at_start, run, state_of}
 use Rattle.fin_frame.specs.Cutting.{WasFed}
 use Rattle.fin_frame.specs.Pieces.{HasTakenFile}
 use Rattle.fin_frame.specs.Whole.{is_led}

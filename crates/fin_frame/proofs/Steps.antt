@@ -5,7 +5,7 @@ use Rattle.fin_frame.proofs.laws.Running.{run-failed}
 use Rattle.corr_text.specs.Braces.{depth_after}
 use Rattle.fin_frame.specs.File.{lead, is_gap_byte, most_bytes}
 use Rattle.fin_frame.specs.Shown.{Begins}
-use Rattle.fin_frame.specs.Machine.{State, to, fails, gives, begins, held_bytes, with_open, grows, within, resumes, moves, stage_between, next_close, next_at, next, run}
+use Rattle.fin_frame.specs.inner.Machine.{State, to, fails, gives, begins, held_bytes, with_open, grows, within, resumes, moves, stage_between, next_close, next_at, next, run}
 use Rattle.fin_frame.specs.declared.fault.FrameFault.{FrameFault}
 use Rattle.fin_frame.specs.declared.fault.FrameFault.TheVariants.{Stray, TooLong}
 use Rattle.fin_frame.specs.declared.stage.Stage.{Stage}

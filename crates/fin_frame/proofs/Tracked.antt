@@ -8,7 +8,7 @@ use Rattle.fin_frame.specs.File.IsMessageTo.{head as message_head, next as messa
 use Rattle.fin_frame.specs.File.IsFileOf.{start as file_start, more as file_more}
 use Rattle.fin_frame.specs.Shown.{is_marked, no_more, stands_apart, cannot_follow, Shows, ShowWhole, Begins}
 use Rattle.fin_frame.specs.Shown.Shows.{stray as shows_stray, long as shows_long}
-use Rattle.fin_frame.specs.Machine.{State, at_start, to, fails, begins, grows, within, resumes, held_bytes, next_opening, next_close, stage_between, moves, landed, next, run}
+use Rattle.fin_frame.specs.inner.Machine.{State, at_start, to, fails, begins, grows, within, resumes, held_bytes, next_opening, next_close, stage_between, moves, landed, next, run}
 use Rattle.fin_frame.specs.declared.fault.FrameFault.{FrameFault}
 use Rattle.fin_frame.specs.declared.fault.FrameFault.TheVariants.{Stray, TooLong}
 use Rattle.fin_frame.specs.declared.stage.Stage.TheVariants.{Between, Opening, Within, After}

@@ -10,9 +10,10 @@ use Rattle.fin_frame.specs.Shown.{is_marked, no_more, stands_apart, cannot_follo
 use Rattle.fin_frame.specs.Shown.Shows.{stray as shows_stray, long as shows_long}
 use Rattle.fin_frame.specs.Shown.EndsWithin.{inside as ends_inside, after as ends_after, apart as ends_apart}
 use Rattle.fin_frame.specs.Shown.HasBegun.{begun as has_begun}
-use Rattle.fin_frame.specs.Machine.{State, at_start, run, stage_between}
-use Rattle.fin_frame.specs.Whole.{is_led, has_group, gap_goes_on, IsFront, IsOpenGroup, IsPart, EndsOpen, RunsOver, CutsNoFile}
-use Rattle.fin_frame.specs.Whole.EndsOpen.{inside as ends_open_inside, after as ends_open_after}
+use Rattle.fin_frame.specs.inner.Machine.{State, at_start, run, stage_between}
+use Rattle.fin_frame.specs.Whole.{is_led}
+use Rattle.fin_frame.specs.inner.Whole.{has_group, gap_goes_on, IsFront, IsOpenGroup, IsPart, EndsOpen, RunsOver, CutsNoFile}
+use Rattle.fin_frame.specs.inner.Whole.EndsOpen.{inside as ends_open_inside, after as ends_open_after}
 use Rattle.fin_frame.specs.declared.fault.FrameFault.{FrameFault}
 use Rattle.fin_frame.specs.declared.fault.FrameFault.TheVariants.{TooLong}
 use Rattle.fin_frame.specs.declared.stage.Stage.TheVariants.{Between}

@@ -1,8 +1,7 @@
 pub mod File
 pub mod Shown
 pub mod Whole
-pub mod Machine
 pub mod Cutting
 pub mod Tidy
 pub mod Pieces
-pub mod Next
+pub mod inner

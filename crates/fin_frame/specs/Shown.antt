@@ -1,5 +1,5 @@
 -- What the bytes of a file that have come so far show: whole messages, messages begun, and faults.
-use Rattle.std.specs.Prelude.{◌≡◌, ◌<◌, ◌≤◌, ◌⊎◌, ℕ, suc, ◌+◌, ◌==◌, ◌||◌, ◌&&◌, not, nat_lt, Bool, true, false, List, [], ◌∷◌, ◌++◌, length, take, get_or, if◌then◌else◌}
+use Rattle.std.specs.Prelude.{◌≡◌, ◌<◌, ◌≤◌, ◌⊎◌, ℕ, suc, ◌+◌, ◌==◌, ◌||◌, ◌&&◌, not, nat_lt, Bool, true, false, List, [], ◌∷◌, ◌++◌, length, take, if◌then◌else◌}
 use Rattle.fin_frame.specs.File.{IsFileOf, IsMessage, IsMessageTo, lead, agrees, is_blank, is_gap_byte, dollars, most_bytes}
 use Rattle.fin_frame.specs.declared.fault.FrameFault.{FrameFault}
 use Rattle.fin_frame.specs.declared.fault.FrameFault.TheVariants.{Stray, TooLong}
@@ -69,11 +69,3 @@ pub data HasBegun : List ℕ → ℕ → Type 0 where
 pub record HaveBegun (bytes : List ℕ) (n : ℕ) : Type 0 where
   pub last : (n ≡ 0) ⊎ HasBegun bytes n
   pub most : (k : ℕ) → HasBegun bytes k → k ≤ n
-
--- `:`, with which each `{1:` ends
-abbrev pub is_colon : ℕ → Bool
-is_colon b = b == 58
-
--- none of the first n bytes is a colon
-abbrev pub HasNoColon : ℕ → List ℕ → Type 0
-HasNoColon n bytes = (k : ℕ) → k < n → is_colon (get_or bytes k 0) ≡ false

@@ -42,7 +42,7 @@ impl Cutter {
     ghost use Rattle.corr_text.specs.First.{unless_fault};
     ghost use Rattle.fin_frame.specs.Tidy.{is_tidy};
     ghost use Rattle.fin_frame.specs.File.{IsCutInto};
-    ghost use Rattle.fin_frame.specs.Machine.{begins, gives, to, held_bytes, resumes, next_between, next_opening, next_close, state_of, HasTaken, HasTakenByte, HasTakenAll};
+    ghost use Rattle.fin_frame.specs.inner.Machine.{begins, gives, to, held_bytes, resumes, next_between, next_opening, next_close, state_of, HasTaken, HasTakenByte, HasTakenAll};
     ghost use Rattle.fin_frame.specs.Cutting.{Knows, WasFed, EndsInput};
     ghost use Rattle.fin_frame.specs.Pieces.{HasTakenFile};
     ghost use Rattle.fin_frame.specs.Whole.{is_led};

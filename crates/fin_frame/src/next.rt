@@ -1,7 +1,7 @@
 //! What a piece goes on with where a message may begin.
 
 ghost use Rattle.std.specs.Prelude.{◌≡◌, ◌<◌, length};
-ghost use Rattle.fin_frame.specs.Next.{IsNext};
+ghost use Rattle.fin_frame.specs.inner.Next.{IsNext};
 ghost use Rattle.fin_frame.specs.Shown.{is_over};
 
 use crate::whole::{Front, is_led, is_part, message_front};

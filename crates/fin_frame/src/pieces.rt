@@ -25,7 +25,8 @@ impl PieceCutter {
     ghost use Rattle.std.specs.List.{All};
     ghost use Rattle.fin_frame.specs.File.{IsMessage};
     ghost use Rattle.fin_frame.specs.Pieces.{at_places, HasAll, HasTakenFile, IsFaulty, IsPlaceIn};
-    ghost use Rattle.fin_frame.specs.Whole.{is_led, gap_goes_on};
+    ghost use Rattle.fin_frame.specs.Whole.{is_led};
+    ghost use Rattle.fin_frame.specs.inner.Whole.{gap_goes_on};
 
     /// A cutter that has taken nothing yet.
     pub fn new() -> PieceCutter

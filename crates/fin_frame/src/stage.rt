@@ -2,7 +2,7 @@
 
 ghost use Rattle.std.specs.Prelude.{◌≡◌, ◌+◌, ℕ, IsTrue, IfSome};
 ghost use Rattle.fin_frame.specs.Tidy.{is_tidy};
-ghost use Rattle.fin_frame.specs.Machine.{landed as landed_at, stage_between, unbalanced_at};
+ghost use Rattle.fin_frame.specs.inner.Machine.{landed as landed_at, stage_between, unbalanced_at};
 
 /// Where the next byte stands.
 #[derive(Clone, Copy, Debug, PartialEq, Eq)]

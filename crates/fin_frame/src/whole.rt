@@ -4,7 +4,8 @@ ghost use Rattle.std.specs.Prelude.{◌≡◌, ◌<◌, ◌≤◌, ◌-◌, ◌|
 ghost use Rattle.std.specs.List.{list_any, slice_range};
 ghost use Rattle.corr_text.specs.Braces.{is_brace};
 ghost use Rattle.fin_frame.specs.File.{dollars, IsGap, IsGroupTo, IsMessage, IsCutInto, most_bytes};
-ghost use Rattle.fin_frame.specs.Whole.{is_led, has_group, gap_goes_on, IsFront, IsOpenGroup, IsPart, CutsNoFile};
+ghost use Rattle.fin_frame.specs.Whole.{is_led};
+ghost use Rattle.fin_frame.specs.inner.Whole.{has_group, gap_goes_on, IsFront, IsOpenGroup, IsPart, CutsNoFile};
 
 use crate::cutter::{LEAD, MOST_BYTES};
 use crate::stage::Stage;

@@ -11,7 +11,8 @@ use Rattle.fin_layout.specs.declared.fault.Refusal.{Refusal}
 use Rattle.fin_layout.specs.declared.fault.Refusal.TheVariants as refusals
 use Rattle.fin_layout.specs.Naming.{fault_at}
 use Rattle.fin_layout.specs.Contents.{all_from, located}
-use Rattle.fin_layout.specs.Reading.{placed, Reads, Fails}
+use Rattle.fin_layout.specs.Reading.{Reads}
+use Rattle.fin_layout.specs.inner.Reading.{placed, Fails}
 
 -- what was read before, and what is still read
 abbrev pub with_front : {A : Type 0} → List A → Result (List A) Fault → Result (List A) Fault

@@ -11,7 +11,8 @@ use Rattle.corr_text.specs.declared.fault.Code.{Code}
 use Rattle.fin_fields.specs.declared.field.Field.{Field}
 use Rattle.fin_fields.proofs.laws.Positions.{position-later}
 use Rattle.fin_layout.specs.Contents.{all_from}
-use Rattle.fin_layout.specs.Found.{AreNoted, IsNotedToo}
+use Rattle.fin_layout.specs.Found.{AreNoted}
+use Rattle.fin_layout.specs.inner.Found.{IsNotedToo}
 use Rattle.fin_layout.specs.Order.{field_in, is_between}
 
 or-true : (b : Bool) → (b || true) ≡ true

@@ -7,7 +7,8 @@ use Rattle.std.proofs.lemmas.List.Folds.{drop_split}
 use Rattle.std.specs.List.{list_any, slice_range}
 use Rattle.std.specs.Option.{option_or}
 use Rattle.fin_layout.specs.declared.place.Place.{Place}
-use Rattle.fin_layout.specs.Order.{free_after, missing_from, Rising}
+use Rattle.fin_layout.specs.Order.{free_after, missing_from}
+use Rattle.fin_layout.specs.inner.Order.{Rising}
 use Rattle.fin_layout.proofs.laws.Grouped.{free_after-bounds}
 
 -- whether a place is taken

@@ -6,3 +6,4 @@ pub mod Tests
 pub mod Segments
 pub mod Places
 pub mod Found
+pub mod inner

@@ -1,5 +1,5 @@
 -- The order of a message type's fields, and the places that fields take in it.
-use Rattle.std.specs.Prelude.{ℕ, ◌+◌, ◌/◌, ◌%◌, ◌<◌, ◌≤◌, ◌==◌, ◌&&◌, nat_le, not, Bool, List, [], ◌∷◌, drop, length, position, slice_get, slice_index, Option, Some, None, option_map, option_and_then, unwrap_or, if◌then◌else◌}
+use Rattle.std.specs.Prelude.{ℕ, ◌+◌, ◌/◌, ◌%◌, ◌==◌, ◌&&◌, nat_le, not, Bool, List, [], ◌∷◌, drop, position, slice_get, slice_index, Option, Some, None, option_map, option_and_then, unwrap_or, if◌then◌else◌}
 use Rattle.std.specs.List.{list_any}
 use Rattle.fin_fields.specs.declared.field.Field.{Field}
 use Rattle.fin_fields.specs.Faults.{letter_of}
@@ -30,11 +30,6 @@ is_missing p k found = p.must && not (list_any (λ q. q == k) found)
 unfoldable pub missing_from : ℕ → List Place → List ℕ → Option ℕ
 missing_from k [] found = None
 missing_from k (p ∷ order) found = if is_missing p k found then Some k else missing_from (k + 1) order found
-
--- places that fields take in turn, from `low` on: none falls, and one comes again only where more than one field may stand
-abbrev pub Rising : List Place → ℕ → List ℕ → Type 0
-Rising order low [] = Unit {0}
-Rising order low (q ∷ found) = (low ≤ q) × (q < length order) × Rising order (free_after order q) found
 
 -- the first field at a place, and its number
 abbrev pub field_in : List Field → List ℕ → ℕ → Option (ℕ × Field)

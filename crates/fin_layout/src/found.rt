@@ -2,7 +2,8 @@
 
 ghost use Rattle.std.specs.Prelude.{◌≡◌, ◌<◌, ◌==◌, ◌++◌, ◌∷◌, [], ℕ, List, OnErr, OnOk};
 ghost use Rattle.std.specs.List.{list_any};
-ghost use Rattle.fin_layout.specs.Found.{AreNoted, IsNotedToo};
+ghost use Rattle.fin_layout.specs.Found.{AreNoted};
+ghost use Rattle.fin_layout.specs.inner.Found.{IsNotedToo};
 ghost use Rattle.fin_layout.specs.Order.{is_between};
 
 use corr_text::Memory;

@@ -2,7 +2,8 @@
 
 ghost use Rattle.std.specs.Prelude.{◌≡◌, ◌≤◌, ◌<◌, ◌+◌, [], IfOk, IfSome, OnOk, length, option_map, position};
 ghost use Rattle.std.specs.List.{slice_range};
-ghost use Rattle.fin_layout.specs.Order.{Rising, fits, free_after, is_missing, missing_from, place_from, places_from};
+ghost use Rattle.fin_layout.specs.Order.{fits, free_after, is_missing, missing_from, place_from, places_from};
+ghost use Rattle.fin_layout.specs.inner.Order.{Rising};
 
 use crate::found::Found;
 use crate::place::{Place, fits};

@@ -3,7 +3,8 @@
 ghost use Rattle.std.specs.Prelude.{◌≡◌, ◌≤◌, ◌<◌, IfOk, OnOk, length};
 ghost use Rattle.fin_fields.specs.Fields.{most_text_lines};
 ghost use Rattle.fin_layout.specs.Contents.{all_from, in_option, in_place};
-ghost use Rattle.fin_layout.specs.Reading.{Fills, Gives, placed};
+ghost use Rattle.fin_layout.specs.Reading.{Fills, Gives};
+ghost use Rattle.fin_layout.specs.inner.Reading.{placed};
 
 use crate::content::{Content, Refill};
 use crate::fault::{MtFault, Refusal};

@@ -13,7 +13,8 @@ use Rattle.mt103.specs.declared.message.Mt103.{Mt103}
 use Rattle.mt103_rules.specs.Rules.{all_rules}
 use Rattle.ref_tables.specs.Seen.{Tables}
 use Rattle.fin_message.specs.Parts.{envelope_of}
-use Rattle.fin_message.specs.Verdict.{ruled_of, transfer_in}
+use Rattle.fin_message.specs.Verdict.{transfer_in}
+use Rattle.fin_message.specs.inner.Verdict.{ruled_of}
 use Rattle.fin_message.specs.declared.message.Message.{Message}
 use Rattle.fin_message.specs.declared.message.Message.TheVariants.{Transfer}
 

@@ -4,3 +4,4 @@ pub mod Verdict
 pub mod Answers
 pub mod Sound
 pub mod Filling
+pub mod inner

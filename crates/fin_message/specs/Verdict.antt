@@ -10,7 +10,6 @@ use Rattle.corr_text.specs.First.{◌>>=◌}
 use Rattle.corr_text.specs.declared.fault.Code.{Code}
 use Rattle.corr_text.specs.declared.fault.Fault.{Fault}
 use Rattle.corr_ids.specs.declared.bic.Bic.{Bic}
-use Rattle.corr_ids.specs.declared.envelope.Envelope.{Envelope}
 use Rattle.corr_ids.specs.declared.mir.Mir.{Mir}
 use Rattle.fin_blocks.specs.Blocks.{blocks_of}
 use Rattle.fin_blocks.specs.Forms.{mir_in}
@@ -20,11 +19,9 @@ use Rattle.fin_blocks.specs.declared.fault.BlockFault.TheVariants as block
 use Rattle.fin_fields.specs.Fields.{fields_of}
 use Rattle.fin_fields.specs.Faults.{field_fault}
 use Rattle.fin_fields.specs.declared.fault.FieldFault.{FieldFault}
-use Rattle.fin_fields.specs.declared.field.Field.{Field}
 use Rattle.fin_fields.specs.declared.fault.FieldFault.TheVariants as field
 use Rattle.fin_layout.specs.Tests.{passed}
 use Rattle.mt103.specs.Message.{mt103_of}
-use Rattle.mt103.specs.declared.message.Mt103.{Mt103}
 use Rattle.mt103_rules.specs.Rules.{all_rules}
 use Rattle.mt202cov.specs.Message.{mt202cov_of}
 use Rattle.mt9_advice.specs.Advice.{mt900_of, mt910_of}
@@ -78,13 +75,6 @@ told_of_fields field.Memory = None
 -- the test of block 4's lines, then of their characters
 abbrev pub line_test : List ℕ → Option Fault
 line_test text = option_and_then told_of_fields (field_fault text)
-
--- what the fields of an MT103 say between these banks: the fields, then the rules
-unfoldable pub ruled_of : Tables → Envelope → List Field → Result Mt103 Fault
-ruled_of t envelope fields = do
-  transfer ← mt103_of t fields
-  _ ← passed (all_rules envelope.sender envelope.receiver t transfer)
-  Ok transfer
 
 -- an MT103: its fields, then its rules
 unfoldable pub transfer_in : Tables → Blocks → Result Message Fault

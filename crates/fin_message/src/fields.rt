@@ -4,7 +4,7 @@ ghost use Rattle.std.specs.Prelude.{◌≡◌, ◌≤◌, IfErr, IfOk, None, OnO
 ghost use Rattle.corr_text.specs.Lines.{lines_of};
 ghost use Rattle.fin_fields.specs.Fields.{fields_of, most_text_lines};
 ghost use Rattle.fin_layout.specs.Reading.{Tells};
-ghost use Rattle.fin_message.specs.Answers.{fault_of_fields};
+ghost use Rattle.fin_message.specs.inner.Answers.{fault_of_fields};
 ghost use Rattle.fin_message.specs.Verdict.{line_test};
 
 use crate::codes::{P20, P21};

@@ -5,7 +5,7 @@ ghost use Rattle.corr_text.specs.Lines.{lines_of};
 ghost use Rattle.fin_fields.specs.Fields.{fields_of, most_text_lines};
 ghost use Rattle.fin_layout.specs.Reading as mt;
 ghost use Rattle.fin_message.specs.Answers.{Answers, Fills};
-ghost use Rattle.fin_message.specs.Filling.{with_text};
+ghost use Rattle.fin_message.specs.inner.Filling.{with_text};
 ghost use Rattle.fin_message.specs.Sound.{IsValid};
 ghost use Rattle.fin_message.specs.Verdict.{judged, message_in, message_of, most_bytes_judged, sent_verdict_of, verdict_of};
 

@@ -1,7 +1,8 @@
 //! What a valid message says.
 
 ghost use Rattle.std.specs.Prelude.{◌≡◌, [], IsTrue};
-ghost use Rattle.fin_message.specs.Filling.{is_transfer, with_text};
+ghost use Rattle.fin_message.specs.Filling.{is_transfer};
+ghost use Rattle.fin_message.specs.inner.Filling.{with_text};
 ghost use Rattle.fin_message.specs.Sound.{lines_in};
 
 use corr_ids::{Bic, Envelope};

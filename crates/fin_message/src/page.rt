@@ -3,7 +3,7 @@
 ghost use Rattle.std.specs.Prelude.{◌≡◌, ◌≤◌, length};
 ghost use Rattle.fin_fields.specs.Fields.{fields_of, most_text_lines};
 ghost use Rattle.fin_layout.specs.Reading.{Fills};
-ghost use Rattle.fin_message.specs.Filling.{with_text};
+ghost use Rattle.fin_message.specs.inner.Filling.{with_text};
 ghost use Rattle.fin_message.specs.Verdict.{page_in};
 
 use crate::message::Message;

@@ -3,8 +3,10 @@
 ghost use Rattle.std.specs.Prelude.{◌≡◌, ◌≤◌, IsTrue, length};
 ghost use Rattle.fin_fields.specs.Fields.{fields_of, most_text_lines};
 ghost use Rattle.fin_layout.specs.Reading.{Fills};
-ghost use Rattle.fin_message.specs.Filling.{is_transfer, with_text};
-ghost use Rattle.fin_message.specs.Verdict.{ruled_of, transfer_in};
+ghost use Rattle.fin_message.specs.Filling.{is_transfer};
+ghost use Rattle.fin_message.specs.inner.Filling.{with_text};
+ghost use Rattle.fin_message.specs.Verdict.{transfer_in};
+ghost use Rattle.fin_message.specs.inner.Verdict.{ruled_of};
 
 use crate::message::Message;
 use crate::parts::fill_envelope;
@@ -42,7 +44,7 @@ fn make_transfer(alloc: Global, out: &mut Message)
 }
 
 /// Fills a transfer with what these fields say, and tests its rules.
-#[tactic(auto, unfolding(crate::specs::Verdict::ruled_of))]
+#[tactic(auto, unfolding(crate::specs::inner::Verdict::ruled_of))]
 fn fill_transfer(
     alloc: Global,
     t: &RefTables,

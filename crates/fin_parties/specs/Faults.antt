@@ -1,5 +1,5 @@
 -- What a reader of parties answers.
-use Rattle.std.specs.Prelude.{◌≡◌, Option, Some, None, Result, Ok, Err}
+use Rattle.std.specs.Prelude.{◌≡◌, Option, None}
 use Rattle.fin_parties.specs.declared.fault.PartyFault.{PartyFault}
 use Rattle.fin_parties.specs.declared.fault.PartyFault.TheVariants.{P24, Memory}
 use Rattle.fin_parties.specs.declared.party.Party.{Party}
@@ -8,8 +8,3 @@ use Rattle.fin_parties.specs.declared.party.Party.{Party}
 abbrev pub TellsPartyFault : Option Party → PartyFault → Type 0
 TellsPartyFault party P24 = party ≡ None
 TellsPartyFault party Memory = Unit {0}
-
--- what is read is this party, and P24 where there is none
-abbrev pub ReadsParty : Option Party → Result Party PartyFault → Type 0
-ReadsParty party (Ok p) = party ≡ Some p
-ReadsParty party (Err fault) = TellsPartyFault party fault

@@ -1,4 +1,4 @@
 pub mod Party
-pub mod Parts
 pub mod Faults
 pub mod Writing
+pub mod inner

@@ -4,7 +4,7 @@ ghost use Rattle.std.specs.Prelude.{◌≡◌, true, false, option_map};
 ghost use Rattle.std.specs.List.{list_any};
 ghost use Rattle.fin_fields.specs.Faults.{has_other_byte};
 ghost use Rattle.fin_parties.specs.Party.{opens, parts_of};
-ghost use Rattle.fin_parties.specs.Parts.{parts_in};
+ghost use Rattle.fin_parties.specs.inner.Parts.{parts_in};
 
 use crate::line::{has_slash, is_account_line, is_party_line};
 use fin_fields::Line;

@@ -5,7 +5,8 @@ ghost use Rattle.std.specs.List.{list_any};
 ghost use Rattle.fin_fields.specs.Faults.{has_other_byte};
 ghost use Rattle.fin_parties.specs.Party.{account_party, after_first, bic_party, is_line, is_listing, is_name, listed_party, party_in, party_of, payer_party, place_party};
 ghost use Rattle.fin_parties.specs.declared.opening.Opening.TheVariants.{PartyLine};
-ghost use Rattle.fin_parties.specs.Faults.{ReadsParty, TellsPartyFault};
+ghost use Rattle.fin_parties.specs.Faults.{TellsPartyFault};
+ghost use Rattle.fin_parties.specs.inner.Faults.{ReadsParty};
 
 use crate::fault::PartyFault;
 use crate::form::{Form, Listing, form_of};

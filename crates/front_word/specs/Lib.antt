@@ -1,6 +1,3 @@
-pub mod Prefix
-pub mod Views
 pub mod Rule
-pub mod Steps
-pub mod Blank
 pub mod Known
+pub mod inner

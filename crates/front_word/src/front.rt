@@ -3,7 +3,7 @@
 ghost use Rattle.std.specs.Prelude.{◌≡◌, [], IfOk, List};
 ghost use Rattle.day_model.specs.declared.entry.Entry.{Entry};
 ghost use Rattle.front_word.specs.Known.{beginner};
-ghost use Rattle.front_word.specs.Views.{first_view};
+ghost use Rattle.front_word.specs.inner.Views.{first_view};
 
 use crate::law::Law;
 use crate::plays::{Base, SetBase};

@@ -7,8 +7,8 @@ use atomic_table::TableRule;
 pub struct Law;
 
 impl TableRule<(), View, ()> for Law {
-    ghost use Rattle.front_word.specs.Rule.{Ruled};
-    ghost use Rattle.front_word.specs.Views.{first_view};
+    ghost use Rattle.front_word.specs.inner.Rule.{Ruled};
+    ghost use Rattle.front_word.specs.inner.Views.{first_view};
 
     ghost holds = { λ _ s. Ruled s.words s.views };
 

@@ -3,8 +3,9 @@
 ghost use Rattle.std.specs.Prelude.{◌≡◌, ◌+◌, ◌<◌, ◌≤◌, ◌⊎◌, length, Some, None, IsOk, OnErr, OnOk};
 ghost use mathlib.Core.List.{IsPrefix};
 ghost use Rattle.front_word.specs.declared.view.Role.TheVariants.{Writer as WriterRole, Pass as PassRole};
-ghost use Rattle.front_word.specs.Views.{having_read, heard, having_seen, writer_note, pass_note};
-ghost use Rattle.front_word.specs.Rule.{IsKept, OwedPast};
+ghost use Rattle.front_word.specs.inner.Views.{having_read, heard, having_seen, writer_note, pass_note};
+ghost use Rattle.front_word.specs.Rule.{OwedPast};
+ghost use Rattle.front_word.specs.inner.Rule.{IsKept};
 ghost use Rattle.front_word.specs.Known.{HasRoom, having_met, places_in};
 
 use crate::front::Front;

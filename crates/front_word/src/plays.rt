@@ -26,7 +26,7 @@ pub trait Deed {
 }
 
 impl Deed for Brand {
-    ghost use Rattle.front_word.specs.Blank.{blank_act};
+    ghost use Rattle.front_word.specs.inner.Blank.{blank_act};
 
     ghost act = { blank_act };
 }
@@ -46,7 +46,7 @@ impl Count for Brand {
 pub struct Watch;
 
 impl Play<(), View> for Watch {
-    ghost use Rattle.front_word.specs.Steps.{writer_looks};
+    ghost use Rattle.front_word.specs.inner.Steps.{writer_looks};
 
     ghost then = { writer_looks };
 }
@@ -55,7 +55,7 @@ impl Play<(), View> for Watch {
 pub struct Look;
 
 impl Play<(), View> for Look {
-    ghost use Rattle.front_word.specs.Steps.{pass_looks};
+    ghost use Rattle.front_word.specs.inner.Steps.{pass_looks};
 
     ghost then = { pass_looks };
 }
@@ -66,8 +66,8 @@ pub struct SetBase<B: Base> {
 }
 
 impl<B: Base> Play<(), View> for SetBase<B> {
-    ghost use Rattle.front_word.specs.Steps.{Becomes};
-    ghost use Rattle.front_word.specs.Views.{based};
+    ghost use Rattle.front_word.specs.inner.Steps.{Becomes};
+    ghost use Rattle.front_word.specs.inner.Views.{based};
 
     ghost then = { Becomes (based B.base) };
 }
@@ -78,8 +78,8 @@ pub struct Publish<A: Deed> {
 }
 
 impl<A: Deed> Play<(), View> for Publish<A> {
-    ghost use Rattle.front_word.specs.Steps.{Becomes};
-    ghost use Rattle.front_word.specs.Views.{published};
+    ghost use Rattle.front_word.specs.inner.Steps.{Becomes};
+    ghost use Rattle.front_word.specs.inner.Views.{published};
 
     ghost then = { Becomes (published A.act) };
 }
@@ -90,8 +90,8 @@ pub struct Raise<C: Count> {
 }
 
 impl<C: Count> Play<(), View> for Raise<C> {
-    ghost use Rattle.front_word.specs.Steps.{Becomes};
-    ghost use Rattle.front_word.specs.Views.{raised};
+    ghost use Rattle.front_word.specs.inner.Steps.{Becomes};
+    ghost use Rattle.front_word.specs.inner.Views.{raised};
 
     ghost then = { Becomes (raised C.count) };
 }
@@ -100,7 +100,7 @@ impl<C: Count> Play<(), View> for Raise<C> {
 pub struct ToPass;
 
 impl Split<View> for ToPass {
-    ghost use Rattle.front_word.specs.Views.{writer_note};
+    ghost use Rattle.front_word.specs.inner.Views.{writer_note};
 
     ghost left = { λ v. v };
 
@@ -108,7 +108,7 @@ impl Split<View> for ToPass {
 }
 
 impl Join<View> for ToPass {
-    ghost use Rattle.front_word.specs.Views.{having_read, spent_view};
+    ghost use Rattle.front_word.specs.inner.Views.{having_read, spent_view};
 
     ghost both = { having_read };
 
@@ -119,7 +119,7 @@ impl Join<View> for ToPass {
 pub struct ToWriter;
 
 impl Split<View> for ToWriter {
-    ghost use Rattle.front_word.specs.Views.{pass_note};
+    ghost use Rattle.front_word.specs.inner.Views.{pass_note};
 
     ghost left = { λ v. v };
 
@@ -127,7 +127,7 @@ impl Split<View> for ToWriter {
 }
 
 impl Join<View> for ToWriter {
-    ghost use Rattle.front_word.specs.Views.{heard, spent_view};
+    ghost use Rattle.front_word.specs.inner.Views.{heard, spent_view};
 
     ghost both = { heard };
 
@@ -138,7 +138,7 @@ impl Join<View> for ToWriter {
 pub struct Whole;
 
 impl Split<View> for Whole {
-    ghost use Rattle.front_word.specs.Views.{having_made, new_pass};
+    ghost use Rattle.front_word.specs.inner.Views.{having_made, new_pass};
 
     ghost left = { having_made };
 
@@ -146,7 +146,7 @@ impl Split<View> for Whole {
 }
 
 impl Join<View> for Whole {
-    ghost use Rattle.front_word.specs.Views.{taken_back, spent_view};
+    ghost use Rattle.front_word.specs.inner.Views.{taken_back, spent_view};
 
     ghost both = { taken_back };
 

@@ -19,10 +19,12 @@ use Rattle.jrn_codec.specs.Record.{IsEntry}
 use Rattle.jrn_book.specs.declared.answer.Committed.TheVariants.{New}
 use Rattle.jrn_book.specs.declared.answer.CommitFault.TheVariants.{Broken, DiskFault}
 use Rattle.jrn_book.specs.Answers.{Answer}
-use Rattle.jrn_book.specs.Batches.{AnswersInTurn, IsBeforeOrEntered, Stage, all_booked, entered_of, is_disk_fault, is_memory, is_new, is_tried, untouched}
+use Rattle.jrn_book.specs.Batches.{AnswersInTurn, IsBeforeOrEntered, Stage, all_booked, entered_of, is_disk_fault, is_memory, is_new}
+use Rattle.jrn_book.specs.inner.Batches.{is_tried, untouched}
 use Rattle.jrn_book.specs.Book.{Book, IsBook, IsLeftBy}
-use Rattle.jrn_book.specs.CommitsAll.{Adds, CommitsAll, stage_of}
-use Rattle.jrn_book.specs.Drafting.{IsFirstNew, records_of}
+use Rattle.jrn_book.specs.CommitsAll.{Adds, stage_of}
+use Rattle.jrn_book.specs.inner.CommitsAll.{CommitsAll}
+use Rattle.jrn_book.specs.inner.Drafting.{IsFirstNew, records_of}
 use Rattle.jrn_book.specs.Journal.{StandsForBook, item_records}
 use Rattle.jrn_book.specs.Resuming.{IsResumable, ResumesRun}
 use Rattle.jrn_book.proofs.Chains.{all_tried_apart, any_here, any_same, chain_failing, front_tried, none_here}

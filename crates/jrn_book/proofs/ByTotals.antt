@@ -19,7 +19,7 @@ use Rattle.day_model.proofs.laws.Changes.{accounts_now}
 use Rattle.day_model.proofs.laws.Standing.{small_at}
 use Rattle.day_model.proofs.laws.Pairs.{balance_is_by_totals}
 use Rattle.acct_locks.specs.Holdings.{Holding, Holds, HoldsOnce}
-use Rattle.jrn_book.specs.Deciding.{leg_test_by}
+use Rattle.jrn_book.specs.inner.Deciding.{leg_test_by}
 
 -- each leg of a pay that fits is of a listed account, with an amount below 10^14
 pub sound_legs : (chart : Chart) (legs : List Leg) → IsTrue (legs_fit chart legs) → All (Sound chart) legs

@@ -12,8 +12,9 @@ use Rattle.day_model.specs.Next.{entry_of}
 use Rattle.jrn_book.specs.Answers.{Answer, AnswerShows, failed_after, history_after}
 use Rattle.jrn_book.specs.declared.answer.Committed.TheVariants.{New, Kept}
 use Rattle.jrn_book.specs.declared.answer.CommitFault.TheVariants.{Conflict, Full, DiskFault, Broken, Memory}
-use Rattle.jrn_book.specs.Batches.{AnswersInTurn, Stage, gate_of, is_disk_fault, is_memory, is_new, is_tried, stage_after}
-use Rattle.jrn_book.specs.Drafting.{IsFirstNew}
+use Rattle.jrn_book.specs.Batches.{AnswersInTurn, Stage, gate_of, is_disk_fault, is_memory, is_new, stage_after}
+use Rattle.jrn_book.specs.inner.Batches.{is_tried}
+use Rattle.jrn_book.specs.inner.Drafting.{IsFirstNew}
 use Rattle.jrn_book.proofs.Entering.{next_new}
 
 -- one answer more

@@ -12,9 +12,9 @@ use Rattle.acct_locks.specs.Holdings.{Holding, held_with}
 use Rattle.jrn_file.specs.File.{IsSettled, disk_of, end_of}
 use Rattle.jrn_codec.specs.Header.{head_bytes}
 use Rattle.jrn_book.specs.Answers.{Answer, IsAnswered, AnswerShows, calls_disk, failed_after, history_after, legs_entered}
-use Rattle.jrn_book.specs.Appending.{Repeats}
+use Rattle.jrn_book.specs.inner.Appending.{Repeats}
 use Rattle.jrn_book.specs.Book.{Book, Counts, IsBook, StandsOnDisk}
-use Rattle.jrn_book.specs.Commits.{Commits}
+use Rattle.jrn_book.specs.inner.Commits.{Commits}
 use Rattle.jrn_book.specs.Journal.{IsBeforeOrNext, StandsForBook, item_records}
 use Rattle.jrn_book.specs.declared.answer.Failed.{Failed}
 use Rattle.jrn_book.specs.declared.answer.Committed.TheVariants.{New, Kept}

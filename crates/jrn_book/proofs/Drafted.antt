@@ -23,11 +23,12 @@ use Rattle.day_model.proofs.laws.Slices.{front_get, in_pushed}
 use Rattle.jrn_file.specs.Reading.{with_length}
 use Rattle.jrn_codec.specs.Record.{IsEntry, entry_bytes}
 use Rattle.jrn_book.specs.Answers.{Answer, AnswerShows, history_after}
-use Rattle.jrn_book.specs.Appending.{Repeats}
+use Rattle.jrn_book.specs.inner.Appending.{Repeats}
 use Rattle.jrn_book.specs.declared.answer.Committed.TheVariants.{New, Kept}
 use Rattle.jrn_book.specs.declared.answer.CommitFault.TheVariants.{Conflict, Full, DiskFault, Broken, Memory}
-use Rattle.jrn_book.specs.Batches.{AnswersInTurn, Stage, gate_of, is_tried, stage_after, untouched}
-use Rattle.jrn_book.specs.Drafting.{AddsOnly, AreFrom, IsDrafted, gated_records, room_for, rooms_for}
+use Rattle.jrn_book.specs.Batches.{AnswersInTurn, Stage, gate_of, stage_after}
+use Rattle.jrn_book.specs.inner.Batches.{is_tried, untouched}
+use Rattle.jrn_book.specs.inner.Drafting.{AddsOnly, AreFrom, IsDrafted, gated_records, room_for, rooms_for}
 use Rattle.jrn_book.specs.Index.{References, references_of}
 use Rattle.jrn_book.specs.Journal.{file_of}
 use Rattle.jrn_book.proofs.Chains.{chain_snoc}

@@ -30,8 +30,9 @@ use Rattle.jrn_file.proofs.laws.Frames.{record_in-frame}
 use Rattle.jrn_codec.specs.Header.{head_bytes}
 use Rattle.jrn_codec.specs.Record.{entry_bytes}
 use Rattle.jrn_book.specs.Deciding.{HoldsAll}
-use Rattle.jrn_book.specs.Index.{place_in, references_of}
-use Rattle.jrn_book.specs.Drafting.{records_of}
+use Rattle.jrn_book.specs.Index.{references_of}
+use Rattle.jrn_book.specs.inner.Index.{place_in}
+use Rattle.jrn_book.specs.inner.Drafting.{records_of}
 use Rattle.jrn_book.specs.Journal.{IsBeforeOrNext, item_records}
 use Rattle.jrn_book.proofs.laws.Items.{by_later, records_more}
 

@@ -12,7 +12,7 @@ use Rattle.day_model.proofs.laws.Folds.{get_at, new_before}
 use Rattle.day_model.proofs.laws.Fronts.{fits_now}
 use Rattle.day_model.proofs.laws.Growth.{one_pay_more}
 use Rattle.day_model.proofs.laws.Slices.{front_get}
-use Rattle.jrn_book.specs.Following.{MayStandNext}
+use Rattle.jrn_book.specs.inner.Following.{MayStandNext}
 
 -- an entry may stand next
 pub next_is_legal : (chart : Chart) (history : List Entry) (e : Entry) → IsLegal chart history → MayStandNext chart history e → IsLegal chart (history ++ e ∷ [])

@@ -11,7 +11,7 @@ use Rattle.day_model.specs.Chart.{Chart}
 use Rattle.jrn_book.specs.declared.version.Version.{Version}
 use Rattle.jrn_book.specs.declared.version.Version.TheVariants.{One, Two}
 use Rattle.jrn_book.specs.Opening.{BookOpenCause, Finding, HasNoHead, IsFaultyAt, IsFoundIn, found_by}
-use Rattle.jrn_book.specs.Reading.{IsOfBytes, RefusesHead, RefusesRecords}
+use Rattle.jrn_book.specs.inner.Reading.{IsOfBytes, RefusesHead, RefusesRecords}
 use Rattle.jrn_book.specs.Versions.{head_in, other}
 use Rattle.jrn_file.proofs.laws.Sizes.{length-journal_bytes}
 use Rattle.jrn_book.proofs.laws.Findings.{one_finding_in}

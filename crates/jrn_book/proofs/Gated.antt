@@ -9,7 +9,7 @@ use Rattle.jrn_file.specs.Reading.{most_record_bytes, size_of, with_length}
 use Rattle.jrn_file.proofs.laws.Sizes.{after_gates-append, length-after_gates, map-with_gates, size_of-append}
 use Rattle.jrn_codec.specs.Record.{IsEntry, entry_bytes}
 use Rattle.jrn_codec.proofs.laws.Records.{few_bytes}
-use Rattle.jrn_book.specs.Drafting.{gated_records, records_of}
+use Rattle.jrn_book.specs.inner.Drafting.{gated_records, records_of}
 use Rattle.jrn_book.specs.Journal.{file_of, item_records}
 use Rattle.jrn_book.proofs.Entering.{records_all}
 use Rattle.jrn_book.proofs.laws.Sizes.{file_long}

@@ -23,7 +23,7 @@ use Rattle.jrn_codec.specs.Items.{IsItem}
 use Rattle.jrn_codec.specs.Record.{IsEntry}
 use Rattle.jrn_book.specs.declared.version.Version.{Version}
 use Rattle.jrn_book.specs.declared.version.Version.TheVariants.{One, Two}
-use Rattle.jrn_book.specs.Following.{MayComeNext}
+use Rattle.jrn_book.specs.inner.Following.{MayComeNext}
 use Rattle.jrn_book.specs.Journal.{IsJournalIn}
 use Rattle.jrn_book.specs.Opening.{IsNextOf}
 use Rattle.jrn_book.specs.Reading.{chart_with, entries_with}

@@ -19,7 +19,7 @@ use Rattle.day_model.specs.RowTests.{are_ends}
 use Rattle.day_model.proofs.laws.Refusing.{legal_or_refused}
 use Rattle.jrn_codec.specs.Change.{IsWhat, NumberFits}
 use Rattle.jrn_book.specs.Changing.{refused_now}
-use Rattle.jrn_book.specs.Following.{IsBalanceFor}
+use Rattle.jrn_book.specs.inner.Following.{IsBalanceFor}
 
 -- limits of an account that isn't there are refused whatever its balance is
 limits_by : (accounts : List Account) (n : ℕ) (floor ceil b c : ℤ) → (is_in accounts n ≡ true → b ≡ c)

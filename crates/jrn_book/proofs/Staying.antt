@@ -21,7 +21,7 @@ use Rattle.jrn_book.specs.declared.answer.CommitFault.{CommitFault}
 use Rattle.jrn_book.specs.declared.answer.CommitFault.TheVariants.{Broken, Conflict, DiskFault, Full, Memory}
 use Rattle.jrn_book.specs.declared.answer.Failed.{Failed}
 use Rattle.jrn_book.specs.Answers.{calls_disk, failed_after}
-use Rattle.jrn_book.specs.Appending.{ShowsAppend}
+use Rattle.jrn_book.specs.inner.Appending.{ShowsAppend}
 use Rattle.jrn_book.specs.Book.{Counts, IsBacked, IsLeftBy, StandsOnDisk}
 use Rattle.jrn_book.specs.Index.{References, references_of}
 use Rattle.jrn_book.specs.Journal.{IsJournal, item_records}

@@ -6,7 +6,7 @@ use Rattle.day_model.proofs.laws.Places.{position_from-within}
 use Rattle.jrn_book.specs.Answers.{Answer}
 use Rattle.jrn_book.specs.declared.answer.Committed.TheVariants.{New, Kept}
 use Rattle.jrn_book.specs.Batches.{is_new}
-use Rattle.jrn_book.specs.Drafting.{IsFirstNew}
+use Rattle.jrn_book.specs.inner.Drafting.{IsFirstNew}
 
 -- the first, by its place
 pub record NewAt (answers : List Answer) (k : ℕ) : Type 0 where

@@ -18,7 +18,7 @@ use Rattle.day_model.specs.Totals.{HasTotals, Pair, booked_legs, legs_pair, pair
 use Rattle.day_model.proofs.laws.Changing.{accounts_with}
 use Rattle.day_model.proofs.laws.Pairs.{booked_listed, legs_pair-cons, other_leg, totals_more}
 use Rattle.day_model.proofs.laws.Slices.{push_before, push_last}
-use Rattle.jrn_book.specs.Reading.{widened}
+use Rattle.jrn_book.specs.inner.Reading.{widened}
 
 -- ---- an account that no entry knows has no totals
 

@@ -1,5 +1,5 @@
 -- Batches: pays that are answered one after another, and whose entries come to the disk together.
-use Rattle.std.specs.Prelude.{◌≡◌, ◌⊎◌, ℕ, ◌+◌, ◌-◌, ◌||◌, nat_le, Bool, true, false, List, [], ◌∷◌, ◌++◌, length, Option, None, Ok, Err, if◌then◌else◌}
+use Rattle.std.specs.Prelude.{◌≡◌, ◌⊎◌, ℕ, ◌+◌, ◌-◌, ◌||◌, nat_le, Bool, true, false, List, [], ◌∷◌, ◌++◌, length, Option, Ok, Err, if◌then◌else◌}
 use Rattle.corr_disk.specs.Disk.{most_disk_bytes}
 use Rattle.corr_ids.specs.declared.day.Day.{Day}
 use Rattle.day_model.specs.declared.pay.Leg.{Leg}
@@ -12,7 +12,7 @@ use Rattle.day_model.specs.Totals.{booked_legs}
 use Rattle.jrn_book.specs.Answers.{Answer, AnswerShows, failed_after, history_after}
 use Rattle.jrn_book.specs.declared.answer.Failed.{Failed}
 use Rattle.jrn_book.specs.declared.answer.Committed.TheVariants.{New, Kept}
-use Rattle.jrn_book.specs.declared.answer.CommitFault.TheVariants.{Conflict, Full, DiskFault, Memory}
+use Rattle.jrn_book.specs.declared.answer.CommitFault.TheVariants.{DiskFault, Memory}
 use Rattle.jrn_book.specs.Journal.{StandsForBook, file_of}
 
 -- the most pays of a batch
@@ -24,10 +24,6 @@ pub record Stage : Type 0 where
   pub history : List Entry
   pub failed : Option Failed
   pub faults : ℕ
-
--- where no commit failed
-abbrev pub untouched : List Entry → ℕ → Stage
-untouched history faults = record { history = history; failed = None; faults = faults }
 
 -- the place of the closed gate of a history's file
 abbrev pub gate_of : Chart → List Entry → ℕ
@@ -68,13 +64,6 @@ abbrev pub is_memory : Answer → Bool
 is_memory (Ok committed) = false
 is_memory (Err Memory) = true
 is_memory (Err _) = false
-
--- an answer comes of books in which no commit had failed, and of a disk that didn't fail
-abbrev pub is_tried : Answer → Bool
-is_tried (Ok committed) = true
-is_tried (Err (Conflict place)) = true
-is_tried (Err (Full entries end need)) = true
-is_tried (Err _) = false
 
 -- there is no room for what a pay becomes: the history has the most entries that it may have, or the file would have more than 2^30 bytes
 abbrev pub lacks_room : Chart → List Entry → Pay → Day → Bool

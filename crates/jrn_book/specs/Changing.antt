@@ -51,11 +51,6 @@ fault_of (refusal.Double row) = Double row
 fault_of refusal.Currency = Currency
 fault_of (refusal.Limits account) = Limits account
 
--- a fault that comes before anything is written: want of memory, or the refusal
-abbrev pub IsRefusedBy : Option Refusal → ChangeFault → Type 0
-IsRefusedBy (Some reason) fault = fault ≡ fault_of reason
-IsRefusedBy None fault = fault ≡ Memory
-
 -- the disk is the same, but after a fault of it
 abbrev pub LeavesDisk : ChangeFault → Type 0 → Type 0
 LeavesDisk (Open fault) same = same

@@ -3,15 +3,12 @@ pub mod Journal
 pub mod Index
 pub mod Book
 pub mod Answers
-pub mod Commits
 pub mod Batches
 pub mod CommitsAll
-pub mod Drafting
-pub mod Appending
-pub mod Following
 pub mod Opening
 pub mod Reading
 pub mod Changing
 pub mod Resuming
 pub mod Deciding
 pub mod Room
+pub mod inner

@@ -1,15 +1,12 @@
 -- Records that are read one after another as accounts and a history.
-use Rattle.std.specs.Prelude.{◌≡◌, ℕ, ◌<◌, ◌^◌, List, [], ◌∷◌, ◌++◌, length, nat_lt, Option, Some, Result, Ok, Err, if◌then◌else◌}
+use Rattle.std.specs.Prelude.{◌≡◌, ℕ, List, [], ◌∷◌, ◌++◌, length, Option, Some, Result, Ok, Err}
 use Rattle.day_model.specs.declared.change.Item.{Item}
 use Rattle.day_model.specs.declared.change.Item.TheVariants.{Entered, Changed}
 use Rattle.day_model.specs.declared.change.What.{What}
 use Rattle.day_model.specs.declared.entry.Entry.{Entry}
 use Rattle.day_model.specs.Chart.{Chart, with_change}
 use Rattle.day_model.specs.Log.{Log}
-use Rattle.day_model.specs.Totals.{Pair}
-use Rattle.jrn_file.specs.Reading.{size_of, whole}
 use Rattle.jrn_file.specs.declared.fault.OpenFault.{OpenFault}
-use Rattle.jrn_file.specs.declared.fault.OpenFault.TheVariants as open_fault
 use Rattle.jrn_file.specs.declared.file.JFile.{JFile}
 use Rattle.jrn_codec.specs.declared.fault.EntryFault.{EntryFault}
 use Rattle.jrn_codec.specs.declared.fault.EntryFault.TheVariants as entry_fault
@@ -17,7 +14,7 @@ use Rattle.jrn_book.specs.declared.past.Ready.{Ready}
 use Rattle.jrn_book.specs.declared.past.Ready.TheVariants as ready
 use Rattle.jrn_book.specs.declared.version.Version.{Version}
 use Rattle.jrn_book.specs.declared.version.Version.TheVariants.{Two}
-use Rattle.jrn_book.specs.Opening.{Finding, HasNoHead, HasOtherHead, IsFaultyAt, IsNextOf, IsNoNext, book, found_by}
+use Rattle.jrn_book.specs.Opening.{Finding, IsNextOf, IsNoNext, book, found_by}
 use Rattle.jrn_book.specs.Versions.{bytes_in}
 
 -- what was read: accounts with their changes so far, and entries; and for how many items more there is room
@@ -25,10 +22,6 @@ pub record Read : Type 0 where
   pub accounts : Chart
   pub history : List Entry
   pub spare : ℕ
-
--- totals of accounts, with none for a new account where there are more accounts than that
-abbrev pub widened : ℕ → List Pair → List Pair
-widened count pairs = if nat_lt (length pairs) count then pairs ++ (0, 0) ∷ [] else pairs
 
 -- accounts and entries with one item more
 abbrev pub chart_with : Chart → List Entry → Item → Chart
@@ -81,31 +74,6 @@ abbrev pub FitsNext : Version → Read → List ℕ → Result Item EntryFault �
 FitsNext version old r (Ok item) = IsNextOf version old.accounts old.history item × (r ≡ bytes_in version item)
 FitsNext version old r (Err entry_fault.NoEntry) = IsNoNext version old.accounts old.history r
 FitsNext version old r (Err entry_fault.Memory) = Unit {0}
-
--- What a refusal of records tells: their first is no header, or one of the other version, or one is refused at this place, where
--- it has 64 bits; want of memory tells nothing.
-abbrev pub RefusesRecords : Version → List (List ℕ) → OpenFault → Type 0
-RefusesRecords version all open_fault.NotAJournal = HasNoHead all
-RefusesRecords version all (open_fault.Version found) = HasOtherHead version all found
-RefusesRecords version all (open_fault.Damaged at) = size_of all < 2 ^ 64 → IsFaultyAt version (whole all) at
-RefusesRecords version all (open_fault.DiskFault before after) = ⊥
-RefusesRecords version all open_fault.Memory = Unit {0}
-
--- what a refusal of a header tells: the bytes are none, or one of the other version; out of memory tells nothing
-abbrev pub RefusesHead : Version → List ℕ → OpenFault → Type 0
-RefusesHead version bytes open_fault.NotAJournal = HasNoHead (bytes ∷ [])
-RefusesHead version bytes (open_fault.Version found) = HasOtherHead version (bytes ∷ []) found
-RefusesHead version bytes (open_fault.Damaged at) = ⊥
-RefusesHead version bytes (open_fault.DiskFault before after) = ⊥
-RefusesHead version bytes open_fault.Memory = Unit {0}
-
--- the fault isn't the disk's
-abbrev pub IsOfBytes : OpenFault → Type 0
-IsOfBytes open_fault.NotAJournal = Unit {0}
-IsOfBytes (open_fault.Version found) = Unit {0}
-IsOfBytes (open_fault.Damaged at) = Unit {0}
-IsOfBytes (open_fault.DiskFault before after) = ⊥
-IsOfBytes open_fault.Memory = Unit {0}
 
 -- what reading a disk's past says that its bytes are
 abbrev pub past_in : {D : Type 0} → Result (Read × JFile D) (D × OpenFault) → Option Finding

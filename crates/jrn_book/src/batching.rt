@@ -19,9 +19,10 @@ ghost use Rattle.jrn_codec.specs.Header.{head_bytes};
 ghost use Rattle.jrn_codec.specs.Record.{IsEntry};
 ghost use Rattle.jrn_book.specs.Batches.{AnswersInTurn, IsBeforeOrEntered, entered_of, is_disk_fault, is_memory, is_new, most_batch};
 ghost use Rattle.jrn_book.specs.Book.{Counts};
-ghost use Rattle.jrn_book.specs.CommitsAll.{Adds, CommitsAll, IsUntried, stage_of};
+ghost use Rattle.jrn_book.specs.CommitsAll.{Adds, IsUntried, stage_of};
+ghost use Rattle.jrn_book.specs.inner.CommitsAll.{CommitsAll};
 ghost use Rattle.jrn_book.specs.Deciding.{HoldsAll};
-ghost use Rattle.jrn_book.specs.Drafting.{gated_records, records_of, rooms_for};
+ghost use Rattle.jrn_book.specs.inner.Drafting.{gated_records, records_of, rooms_for};
 ghost use Rattle.jrn_book.specs.Journal.{IsJournal, file_of, item_records};
 ghost use Rattle.jrn_book.specs.Resuming.{IsResumable};
 

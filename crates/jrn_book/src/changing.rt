@@ -14,7 +14,8 @@ ghost use Rattle.jrn_file.specs.Untouched.{IsUntouched};
 ghost use Rattle.jrn_codec.specs.Change.{IsWhat, NumberFits, change_bytes, most_change_bytes};
 ghost use Rattle.jrn_codec.specs.Header.{head_bytes};
 ghost use Rattle.jrn_book.specs.Batches.{gate_of};
-ghost use Rattle.jrn_book.specs.Changing.{ChangeAnswers, ChangeShows, ChangeTells, IsRefusedBy, LeavesDisk, calls_to_change, disk_left, fault_in, fault_of, refused_now};
+ghost use Rattle.jrn_book.specs.Changing.{ChangeAnswers, ChangeShows, ChangeTells, LeavesDisk, calls_to_change, disk_left, fault_in, fault_of, refused_now};
+ghost use Rattle.jrn_book.specs.inner.Changing.{IsRefusedBy};
 ghost use Rattle.jrn_book.specs.Journal.{IsBeforeOrChanged, IsJournal, StandsForBook, item_records};
 ghost use Rattle.jrn_book.specs.Opening.{Finding, IsFound, book};
 

@@ -22,10 +22,10 @@ ghost use Rattle.jrn_codec.specs.Header.{head_bytes};
 ghost use Rattle.jrn_codec.specs.Record.{IsEntry, entry_bytes, most_record_bytes};
 ghost use Rattle.jrn_book.specs.Answers.{IsAnswered, AnswerShows, calls_disk, failed_after, history_after, legs_entered};
 ghost use Rattle.jrn_book.specs.Book.{Counts};
-ghost use Rattle.jrn_book.specs.Commits.{Commits};
-ghost use Rattle.jrn_book.specs.Appending.{Repeats, ShowsAppend};
+ghost use Rattle.jrn_book.specs.inner.Commits.{Commits};
+ghost use Rattle.jrn_book.specs.inner.Appending.{Repeats, ShowsAppend};
 ghost use Rattle.jrn_book.specs.Deciding.{HoldsAll};
-ghost use Rattle.jrn_book.specs.Index.{place_in};
+ghost use Rattle.jrn_book.specs.inner.Index.{place_in};
 ghost use Rattle.jrn_book.specs.Journal.{IsBeforeOrNext, IsJournal, file_of, item_records};
 ghost use Rattle.jrn_book.specs.Resuming.{IsResumable};
 
@@ -38,11 +38,8 @@ use acct_locks::{BookSides, Held};
 use corr_disk::Disk;
 use corr_ids::Day;
 use corr_text::Buf;
-use day_model::{Accounts, Entry, History, Pay, add_legs, legs_booked};
+use day_model::{Accounts, Entry, History, MOST_ENTRIES, Pay, add_legs, legs_booked};
 use jrn_file::{AppendFault, JFile};
-
-/// How many entries a history has at most.
-pub(crate) const MOST_ENTRIES: u32 = 100_000;
 
 /// Appends a frame, unless there are as many entries as a history has at most, or the file is full.
 fn append<D: Disk>(file: &mut JFile<D>, entries: u32, frame: &[u8]) -> Result<(), CommitFault>

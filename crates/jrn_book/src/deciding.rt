@@ -13,7 +13,8 @@ ghost use Rattle.day_model.specs.Pairs.{pairs_with};
 ghost use Rattle.day_model.specs.Totals.{HasTotals, balance_with, booked_legs, totals_of};
 ghost use Rattle.day_model.proofs.laws.Fitting.{Sound};
 ghost use Rattle.acct_locks.specs.Holdings.{CanSettle, HoldsOnce, held_totals, held_with};
-ghost use Rattle.jrn_book.specs.Deciding.{HoldsAll, leg_test_by};
+ghost use Rattle.jrn_book.specs.Deciding.{HoldsAll};
+ghost use Rattle.jrn_book.specs.inner.Deciding.{leg_test_by};
 
 use acct_locks::{BookSides, Held};
 use day_model::{

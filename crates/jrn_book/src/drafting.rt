@@ -17,26 +17,24 @@ ghost use Rattle.day_model.specs.declared.entry.Entry.{Entry as TheEntry};
 ghost use Rattle.jrn_file.specs.Reading.{with_length};
 ghost use Rattle.jrn_codec.specs.Record.{IsEntry, entry_bytes};
 ghost use Rattle.jrn_book.specs.Answers.{AnswerShows, IsFull, history_after};
-ghost use Rattle.jrn_book.specs.Appending.{Repeats};
-ghost use Rattle.jrn_book.specs.Batches.{AnswersInTurn, gate_of, is_tried, most_batch, untouched};
-ghost use Rattle.jrn_book.specs.Drafting.{AddsOnly, AreFrom, IsDrafted, room_for, rooms_for};
-ghost use Rattle.jrn_book.specs.Index.{place_in};
+ghost use Rattle.jrn_book.specs.inner.Appending.{Repeats};
+ghost use Rattle.jrn_book.specs.Batches.{AnswersInTurn, gate_of, most_batch};
+ghost use Rattle.jrn_book.specs.inner.Batches.{is_tried, untouched};
+ghost use Rattle.jrn_book.specs.inner.Drafting.{AddsOnly, AreFrom, IsDrafted, room_for, rooms_for};
+ghost use Rattle.jrn_book.specs.inner.Index.{place_in};
 ghost use Rattle.jrn_book.specs.Journal.{file_of};
 
 use crate::answer::{CommitFault, Committed};
-use crate::committing::MOST_ENTRIES;
 use crate::deciding::decide_by_pairs;
 use crate::index::Index;
 use crate::room::most_bytes;
 use crate::turning::turned;
+use corr_disk::MOST_DISK_BYTES;
 use corr_ids::Day;
 use corr_text::{Buf, Memory};
-use day_model::{Accounts, Entry, History, Pay, add_legs, legs_booked};
+use day_model::{Accounts, Entry, History, MOST_ENTRIES, Pay, add_legs, legs_booked};
 use jrn_codec::{put_entry, record_len};
 use std::alloc::Global;
-
-/// The most bytes that a journal's file has.
-const MOST_BYTES: u64 = 1 << 30;
 
 /// New entries, and their records, each after an open gate and its length.
 #[derive(Drop)]
@@ -121,7 +119,7 @@ fn find_room(entries: u32, end: u64, need: u64) -> Result<(), CommitFault>
     ensures room { OnOk result ((entries < most_entries) × (end + need ≤ most_disk_bytes)) }
     ensures fault { IfErr result (λ fault. (fault ≡ CommitFault.Full entries end need) × ((entries ≡ most_entries) ⊎ (most_disk_bytes < end + need))) }
 {
-    if entries == MOST_ENTRIES || need > MOST_BYTES.saturating_sub(end) {
+    if entries == MOST_ENTRIES || need > MOST_DISK_BYTES.saturating_sub(end) {
         return Err(CommitFault::Full { entries, end, need });
     }
     Ok(())

@@ -4,7 +4,7 @@ ghost use Rattle.std.specs.Prelude.{◌≡◌, ◌+◌, ◌≤◌, ◌++◌, ◌
 ghost use Rattle.std.specs.List.{list_any, position_from};
 ghost use Rattle.jrn_book.specs.Answers.{Answer};
 ghost use Rattle.jrn_book.specs.Batches.{is_new};
-ghost use Rattle.jrn_book.specs.Drafting.{IsFirstNew};
+ghost use Rattle.jrn_book.specs.inner.Drafting.{IsFirstNew};
 
 use crate::answer::{CommitFault, Committed};
 

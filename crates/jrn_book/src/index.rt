@@ -2,7 +2,7 @@
 
 ghost use Rattle.std.specs.Prelude.{◌≡◌, ◌+◌, ◌<◌, ◌≤◌, ◌++◌, [], ◌∷◌, None, length, take, OnErr, OnOk, IsOk};
 ghost use Rattle.day_model.specs.Log.{most_entries};
-ghost use Rattle.jrn_book.specs.Index.{place_in};
+ghost use Rattle.jrn_book.specs.inner.Index.{place_in};
 
 use corr_ids::Mir;
 use corr_text::Memory;

@@ -13,13 +13,12 @@ ghost use Rattle.day_model.specs.Log.{most_entries};
 ghost use Rattle.day_model.specs.Next.{entered_at};
 ghost use Rattle.jrn_codec.specs.Items.{IsItem};
 ghost use Rattle.jrn_book.specs.Changing.{refused_now};
-ghost use Rattle.jrn_book.specs.Following.{IsBalanceFor, MayStandNext};
+ghost use Rattle.jrn_book.specs.inner.Following.{IsBalanceFor, MayStandNext};
 
-use crate::committing::MOST_ENTRIES;
 use crate::deciding::decide_by;
 use crate::past::Past;
 use corr_ids::Day;
-use day_model::{Accounts, AcctNo, Entry, History, Item, Outcome, Refusal, What};
+use day_model::{Accounts, AcctNo, Entry, History, Item, MOST_ENTRIES, Outcome, Refusal, What};
 
 /// How many changes the accounts of a book have at most.
 const MOST_CHANGES: usize = 1_073_741_824;

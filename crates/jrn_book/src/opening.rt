@@ -16,7 +16,8 @@ ghost use Rattle.jrn_codec.specs.Header.{head_bytes};
 ghost use Rattle.jrn_book.specs.declared.version.Version.TheVariants.{One, Two};
 ghost use Rattle.jrn_book.specs.Journal.{IsJournal, IsJournalIn, all_records_in, item_records};
 ghost use Rattle.jrn_book.specs.Opening.{BookOpenCause, Finding, HasPurses, IsFound, IsFoundIn, IsNewBook, finding_in, found_by};
-ghost use Rattle.jrn_book.specs.Reading.{IsOfBytes, old_in, past_in};
+ghost use Rattle.jrn_book.specs.Reading.{old_in, past_in};
+ghost use Rattle.jrn_book.specs.inner.Reading.{IsOfBytes};
 ghost use Rattle.jrn_book.specs.Resuming.{ResumesRun};
 ghost use Rattle.jrn_book.specs.Versions.{bytes_in, head_in};
 

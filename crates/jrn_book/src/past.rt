@@ -14,7 +14,8 @@ ghost use Rattle.jrn_codec.specs.Record.{IsEntry};
 ghost use Rattle.jrn_book.specs.declared.version.Version.TheVariants.{Two};
 ghost use Rattle.jrn_book.specs.Journal.{IsJournal};
 ghost use Rattle.jrn_book.specs.Opening.{IsNextOf};
-ghost use Rattle.jrn_book.specs.Reading.{FitsNext, GrowsBy, IsReady, IsReadyFor, IsSameRead, ReadsRecord, widened};
+ghost use Rattle.jrn_book.specs.Reading.{FitsNext, GrowsBy, IsReady, IsReadyFor, IsSameRead, ReadsRecord};
+ghost use Rattle.jrn_book.specs.inner.Reading.{widened};
 ghost use Rattle.jrn_book.specs.Versions.{HasBytes, bytes_in};
 
 use crate::committing::note;

@@ -7,7 +7,7 @@ ghost use Rattle.jrn_codec.specs.Answers.{IsGiven};
 ghost use Rattle.jrn_codec.specs.Header.{IsHead};
 ghost use Rattle.jrn_file.specs.Reading.{size_of};
 ghost use Rattle.jrn_book.specs.Journal.{IsJournalIn, all_records_in};
-ghost use Rattle.jrn_book.specs.Reading.{RefusesHead, RefusesRecords};
+ghost use Rattle.jrn_book.specs.inner.Reading.{RefusesHead, RefusesRecords};
 ghost use Rattle.jrn_book.specs.Versions.{head_in};
 
 use crate::past::Past;

@@ -11,8 +11,8 @@ use Rattle.day_model.specs.Chart.{HasCode, IsFormed, IsLimited, IsSmall}
 use Rattle.jrn_codec.specs.declared.header.Balances.{Balances}
 use Rattle.jrn_codec.specs.Spelling.{signed_bytes, bic_bytes, short_bytes}
 use Rattle.jrn_codec.specs.Header.{account_bytes}
-use Rattle.jrn_codec.specs.Reading.{cut, byte_at, signed_at, bic_at}
-use Rattle.jrn_codec.specs.HeaderReading.{balances_at, account_read}
+use Rattle.jrn_codec.specs.inner.Reading.{cut, byte_at, signed_at, bic_at}
+use Rattle.jrn_codec.specs.inner.HeaderReading.{balances_at, account_read}
 use Rattle.jrn_codec.proofs.Fields.{IsBytes, IsField, step, resume, cut_field, byte_field, signed64_field}
 use Rattle.jrn_codec.proofs.Parts.{short_field}
 use Rattle.jrn_codec.proofs.Identifiers.{bic_field}

@@ -10,12 +10,13 @@ use Rattle.day_model.specs.declared.change.What.TheVariants.{Opened, Limits}
 use Rattle.day_model.specs.Legal.{IsInForm}
 use Rattle.jrn_codec.specs.declared.fault.EntryFault.{EntryFault}
 use Rattle.jrn_codec.specs.declared.fault.EntryFault.TheVariants as faults
-use Rattle.jrn_codec.specs.Answers.{FailsToRead, IsGiven}
+use Rattle.jrn_codec.specs.Answers.{IsGiven}
+use Rattle.jrn_codec.specs.inner.Answers.{FailsToRead}
 use Rattle.jrn_codec.specs.Spelling.{signed_bytes}
 use Rattle.jrn_codec.specs.Header.{account_bytes}
 use Rattle.jrn_codec.specs.Change.{IsWhat, change_bytes, ends_bytes}
-use Rattle.jrn_codec.specs.Reading.{signed_at}
-use Rattle.jrn_codec.specs.ChangeReading.{change_read, ends_at, opened_at, what_at}
+use Rattle.jrn_codec.specs.inner.Reading.{signed_at}
+use Rattle.jrn_codec.specs.inner.ChangeReading.{change_read, ends_at, opened_at, what_at}
 use Rattle.jrn_codec.proofs.Accounts.{FitsRow, account_field}
 use Rattle.jrn_codec.proofs.Fields.{IsBytes, IsField, step, resume, tested, differs, byte_field, field16, signed64_field}
 use Rattle.jrn_codec.proofs.Legs.{after, both}

@@ -23,11 +23,12 @@ use Rattle.jrn_codec.specs.declared.entry.Stamp.{Stamp}
 use Rattle.jrn_codec.specs.declared.entry.Fate.{Fate}
 use Rattle.jrn_codec.specs.declared.fault.EntryFault.{EntryFault}
 use Rattle.jrn_codec.specs.declared.fault.EntryFault.TheVariants as faults
-use Rattle.jrn_codec.specs.Answers.{AnswersRead, IsGiven}
+use Rattle.jrn_codec.specs.Answers.{IsGiven}
+use Rattle.jrn_codec.specs.inner.Answers.{AnswersRead}
 use Rattle.jrn_codec.specs.Spelling.{optional_bytes, listed_bytes, long_bytes}
 use Rattle.jrn_codec.specs.Record.{IsEntry, IsOutcome, mt_mark, day_bytes, outcome_bytes, stamp_bytes, fate_bytes, leg_bytes, order_bytes, entry_bytes_1}
-use Rattle.jrn_codec.specs.Reading.{mark_at, optional_at, listed_at, long_at}
-use Rattle.jrn_codec.specs.RecordReading.{mt_of, uetr_at, day_at, outcome_at, leg_at, order_at, stamp_at, fate_at, is_whole_pay, entry_with, entry_read}
+use Rattle.jrn_codec.specs.inner.Reading.{mark_at, optional_at, listed_at, long_at}
+use Rattle.jrn_codec.specs.inner.RecordReading.{mt_of, uetr_at, day_at, outcome_at, leg_at, order_at, stamp_at, fate_at, is_whole_pay, entry_with, entry_read}
 use Rattle.jrn_codec.proofs.Fields.{IsBytes, IsField, step, resume, tested, joined5}
 use Rattle.jrn_codec.proofs.Parts.{mark_field, optional_field, listed_field, long_field}
 use Rattle.jrn_codec.proofs.Marks.{mt_marks}

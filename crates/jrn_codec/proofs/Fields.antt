@@ -9,7 +9,7 @@ use Rattle.std.proofs.lemmas.Int.{to_z-of_z, of_z-to_z}
 use Rattle.std.proofs.lemmas.List.{take_at, drop_at, take-append-drop, length-append, length-take, get_or-take, get_or_past, get_or-append-add}
 use Rattle.std.proofs.lemmas.Nat.{be_bytes_2, be_bytes_4, be_bytes_8, from_be_bytes-to_be_bytes_2, from_be_bytes-to_be_bytes_4, from_be_bytes-to_be_bytes_8}
 use Rattle.jrn_codec.specs.Spelling.{signed_bytes}
-use Rattle.jrn_codec.specs.Reading.{cut, byte_at, number_at, signed_at}
+use Rattle.jrn_codec.specs.inner.Reading.{cut, byte_at, number_at, signed_at}
 
 -- each is a byte
 abbrev pub IsBytes : List ℕ → Type 0

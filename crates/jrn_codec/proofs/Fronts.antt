@@ -2,7 +2,7 @@
 use Rattle.std.proofs.Common.{◌≡◌, ℕ, ◌≤◌, List, ◌++◌, length, take, drop, sym, ap, ◌∙◌, subst, arith}
 use Rattle.std.proofs.lemmas.List.{length-take, take-append-drop, take-append-le}
 use Rattle.std.proofs.Math.Seq.{take-append_seam, take-length}
-use Rattle.jrn_codec.specs.Writing.{IsFrontOf}
+use Rattle.jrn_codec.specs.inner.Writing.{IsFrontOf}
 
 pub stays : (before now : List ℕ) → now ≡ before → IsFrontOf before now
 stays before now is = subst (λ (bytes : List ℕ). IsFrontOf before bytes) (sym is) (record { kept = take-length before })

@@ -16,11 +16,12 @@ use Rattle.day_model.specs.declared.change.Change.{Change}
 use Rattle.day_model.specs.Chart.{Chart, HasCode, IsChart, IsFormed, IsLimited, bare}
 use Rattle.jrn_codec.specs.declared.fault.EntryFault.{EntryFault}
 use Rattle.jrn_codec.specs.declared.fault.EntryFault.TheVariants as faults
-use Rattle.jrn_codec.specs.Answers.{FailsToRead, IsGiven}
+use Rattle.jrn_codec.specs.Answers.{IsGiven}
+use Rattle.jrn_codec.specs.inner.Answers.{FailsToRead}
 use Rattle.jrn_codec.specs.Spelling.{bic_bytes}
 use Rattle.jrn_codec.specs.Header.{account_bytes, headed_bytes, title_bytes, IsHead}
-use Rattle.jrn_codec.specs.Reading.{number_at, items_at}
-use Rattle.jrn_codec.specs.HeaderReading.{account_read, chart_read, header_read}
+use Rattle.jrn_codec.specs.inner.Reading.{number_at, items_at}
+use Rattle.jrn_codec.specs.inner.HeaderReading.{account_read, chart_read, header_read}
 use Rattle.jrn_codec.proofs.Accounts.{FitsRow, account_field, row_fits}
 use Rattle.jrn_codec.proofs.Fields.{IsBytes, step, resume, tested, cut_field, field16}
 use Rattle.jrn_codec.proofs.Parts.{items_take, items_again}

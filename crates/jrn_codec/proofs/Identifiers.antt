@@ -19,8 +19,8 @@ use Rattle.corr_ids.specs.Day.{InCentury}
 use Rattle.corr_ids.proofs.laws.Spelling.{some_if, bic-again}
 use Rattle.jrn_codec.specs.Spelling.{bic_bytes}
 use Rattle.jrn_codec.specs.Record.{day_bytes}
-use Rattle.jrn_codec.specs.Reading.{bic_at}
-use Rattle.jrn_codec.specs.RecordReading.{mir_at, uetr_at, day_at, in_century}
+use Rattle.jrn_codec.specs.inner.Reading.{bic_at}
+use Rattle.jrn_codec.specs.inner.RecordReading.{mir_at, uetr_at, day_at, in_century}
 use Rattle.jrn_codec.proofs.Fields.{IsBytes, IsField, step, resume, tested, signed32_field}
 use Rattle.jrn_codec.proofs.Parts.{spelled_field}
 

@@ -19,8 +19,8 @@ use Rattle.day_model.specs.Fit.{are_apart, are_even, are_legs, begin_with_debit,
 use Rattle.day_model.specs.Shape.{IsReference, IsQuote, IsLeg}
 use Rattle.jrn_codec.specs.Spelling.{signed_bytes}
 use Rattle.jrn_codec.specs.Record.{IsOutcome, outcome_bytes, quote_bytes, leg_bytes, posting_bytes, side_mark}
-use Rattle.jrn_codec.specs.Reading.{number_at, signed_at, mark_at}
-use Rattle.jrn_codec.specs.RecordReading.{unfunded_at, outcome_at, is_reference, theirs_at, ours_at, quote_at, is_account_number, side_of, leg_with, leg_at}
+use Rattle.jrn_codec.specs.inner.Reading.{number_at, signed_at, mark_at}
+use Rattle.jrn_codec.specs.inner.RecordReading.{unfunded_at, outcome_at, is_reference, theirs_at, ours_at, quote_at, is_account_number, side_of, leg_with, leg_at}
 use Rattle.jrn_codec.proofs.Fields.{IsBytes, IsBytes-after, IsField, step, resume, tested, differs, byte_field, field16, field64, signed64_field}
 use Rattle.jrn_codec.proofs.Parts.{mark_field, short_field}
 use Rattle.jrn_codec.proofs.Marks.{side_marks}

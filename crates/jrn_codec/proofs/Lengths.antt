@@ -32,7 +32,7 @@ use Rattle.jrn_codec.specs.Spelling.{signed_bytes, bic_bytes, short_bytes, optio
 use Rattle.jrn_codec.specs.Record.{skip_mark, mt_mark, day_bytes, outcome_bytes, quote_bytes, posting_bytes, leg_bytes, order_bytes, stamp_bytes, fate_bytes, front_bytes, back_bytes, entry_bytes, entry_bytes_1}
 use Rattle.jrn_codec.specs.Header.{column_bytes, balance_bytes, account_bytes, title_bytes, headed_bytes, IsHead}
 use Rattle.jrn_codec.specs.Change.{IsWhat, change_bytes, ends_bytes}
-use Rattle.jrn_codec.specs.Reading.{cut, spelled_at}
+use Rattle.jrn_codec.specs.inner.Reading.{cut, spelled_at}
 use Rattle.jrn_codec.proofs.Identifiers.{bic_field, mir_field, uetr_field}
 use Rattle.jrn_codec.proofs.Legs.{few_legs}
 

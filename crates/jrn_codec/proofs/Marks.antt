@@ -8,7 +8,7 @@ use Rattle.day_model.specs.declared.pay.Mt.TheVariants.{Transfer, Cover}
 use Rattle.day_model.specs.declared.pay.Skip.{Skip}
 use Rattle.day_model.specs.declared.pay.Skip.TheVariants.{Keep, Mid, Both}
 use Rattle.jrn_codec.specs.Record.{mt_mark, side_mark, skip_mark}
-use Rattle.jrn_codec.specs.RecordReading.{mt_of, side_of, skip_marked}
+use Rattle.jrn_codec.specs.inner.RecordReading.{mt_of, side_of, skip_marked}
 use Rattle.jrn_codec.proofs.Fields.{differs}
 use Rattle.jrn_codec.proofs.Parts.{IsMark}
 

@@ -10,8 +10,8 @@ use Rattle.day_model.specs.declared.pay.Order.TheVariants as order
 use Rattle.day_model.specs.Shape.{IsNumbered, IsOrder}
 use Rattle.jrn_codec.specs.Spelling.{bic_bytes, optional_bytes}
 use Rattle.jrn_codec.specs.Record.{order_bytes, skip_mark}
-use Rattle.jrn_codec.specs.Reading.{byte_at, bic_at, mark_at, optional_at}
-use Rattle.jrn_codec.specs.RecordReading.{skip_marked, transfer_at, cover_at, pass_at, is_leg_number, noticed_at, debit_at, credit_at, order_at}
+use Rattle.jrn_codec.specs.inner.Reading.{byte_at, bic_at, mark_at, optional_at}
+use Rattle.jrn_codec.specs.inner.RecordReading.{skip_marked, transfer_at, cover_at, pass_at, is_leg_number, noticed_at, debit_at, credit_at, order_at}
 use Rattle.jrn_codec.proofs.Fields.{IsBytes, IsField, step, resume, tested, differs, byte_field}
 use Rattle.jrn_codec.proofs.Parts.{mark_field, optional_field}
 use Rattle.jrn_codec.proofs.Marks.{skip_marks}

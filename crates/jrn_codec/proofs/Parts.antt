@@ -5,7 +5,7 @@ use Rattle.std.specs.List.{AllByRecursion}
 use Rattle.std.specs.Int.{w32, to_be_bytes}
 use Rattle.std.proofs.lemmas.Option.{some_pair_parts, same_Some, option_and_then_some}
 use Rattle.jrn_codec.specs.Spelling.{optional_bytes, short_bytes, long_bytes, listed_bytes}
-use Rattle.jrn_codec.specs.Reading.{cut, spelled_at, mark_at, optional_at, short_at, long_at, items_at, listed_at}
+use Rattle.jrn_codec.specs.inner.Reading.{cut, spelled_at, mark_at, optional_at, short_at, long_at, items_at, listed_at}
 use Rattle.jrn_codec.proofs.Fields.{IsBytes, IsBytes-after, IsField, step, resume, cut_field, byte_field, field32}
 
 -- n bytes that spell a value

@@ -3,9 +3,5 @@ pub mod Record
 pub mod Header
 pub mod Change
 pub mod Items
-pub mod Reading
-pub mod RecordReading
-pub mod HeaderReading
-pub mod ChangeReading
 pub mod Answers
-pub mod Writing
+pub mod inner

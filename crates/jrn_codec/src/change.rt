@@ -4,9 +4,10 @@ ghost use Rattle.std.specs.Prelude.{◌≡◌, IfOk, IsTrue};
 ghost use Rattle.std.specs.Bool.{OnTrue};
 ghost use Rattle.day_model.specs.declared.change.What.{What as TheWhat};
 ghost use Rattle.day_model.specs.Legal.{IsInForm};
-ghost use Rattle.jrn_codec.specs.Answers.{AnswersRead, IsGiven};
+ghost use Rattle.jrn_codec.specs.Answers.{IsGiven};
+ghost use Rattle.jrn_codec.specs.inner.Answers.{AnswersRead};
 ghost use Rattle.jrn_codec.specs.Change.{IsWhat, change_bytes};
-ghost use Rattle.jrn_codec.specs.ChangeReading.{change_read, ends_at, opened_at, what_at};
+ghost use Rattle.jrn_codec.specs.inner.ChangeReading.{change_read, ends_at, opened_at, what_at};
 
 use crate::fault::EntryFault;
 use crate::field::{byte_at, i64_at, u16_at};
@@ -14,7 +15,7 @@ use crate::header::account_at;
 use day_model::{AcctNo, What, has_form};
 use std::alloc::Global;
 
-#[tactic(auto, unfolding(crate::specs::ChangeReading::opened_at))]
+#[tactic(auto, unfolding(crate::specs::inner::ChangeReading::opened_at))]
 fn opened_at(alloc: Global, bytes: &[u8]) -> Result<(What, &[u8]), EntryFault>
     ensures { AnswersRead (λ x. (x.0, x.1.now)) result (opened_at bytes.now) }
 {
@@ -22,7 +23,7 @@ fn opened_at(alloc: Global, bytes: &[u8]) -> Result<(What, &[u8]), EntryFault>
     Ok((What::Opened(account), rest))
 }
 
-#[tactic(auto, unfolding(crate::specs::ChangeReading::ends_at))]
+#[tactic(auto, unfolding(crate::specs::inner::ChangeReading::ends_at))]
 fn ends_at(bytes: &[u8]) -> Result<(What, &[u8]), EntryFault>
     ensures { AnswersRead (λ x. (x.0, x.1.now)) result (ends_at bytes.now) }
 {
@@ -37,7 +38,7 @@ fn ends_at(bytes: &[u8]) -> Result<(What, &[u8]), EntryFault>
     Ok((ends, rest))
 }
 
-#[tactic(auto, unfolding(crate::specs::ChangeReading::what_at))]
+#[tactic(auto, unfolding(crate::specs::inner::ChangeReading::what_at))]
 fn what_at(alloc: Global, bytes: &[u8]) -> Result<(What, &[u8]), EntryFault>
     ensures { AnswersRead (λ x. (x.0, x.1.now)) result (what_at bytes.now) }
 {
@@ -49,7 +50,7 @@ fn what_at(alloc: Global, bytes: &[u8]) -> Result<(What, &[u8]), EntryFault>
     }
 }
 
-#[tactic(auto, unfolding(crate::specs::ChangeReading::change_read))]
+#[tactic(auto, unfolding(crate::specs::inner::ChangeReading::change_read))]
 fn change_of(alloc: Global, bytes: &[u8]) -> Result<What, EntryFault>
     ensures { AnswersRead (λ what. what) result (change_read bytes.now) }
 {

@@ -3,7 +3,7 @@
 ghost use Rattle.std.specs.Prelude.{◌≡◌, ◌++◌, ◌≤◌, length, OnErr, OnOk};
 ghost use Rattle.day_model.specs.Legal.{IsInForm};
 ghost use Rattle.jrn_codec.specs.Change.{IsWhat, NumberFits, change_bytes, ends_bytes, most_change_bytes};
-ghost use Rattle.jrn_codec.specs.Writing.{IsFrontOf};
+ghost use Rattle.jrn_codec.specs.inner.Writing.{IsFrontOf};
 
 use crate::header_writing::{put_account, put_signed};
 use corr_text::{Memory, Text};

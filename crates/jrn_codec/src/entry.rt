@@ -2,10 +2,11 @@
 
 ghost use Rattle.std.specs.Prelude.{◌≡◌, IfOk};
 ghost use Rattle.day_model.specs.declared.entry.Entry.{Entry};
-ghost use Rattle.jrn_codec.specs.Answers.{AnswersRead, IsGiven};
-ghost use Rattle.jrn_codec.specs.Reading.{mark_at, optional_at};
+ghost use Rattle.jrn_codec.specs.Answers.{IsGiven};
+ghost use Rattle.jrn_codec.specs.inner.Answers.{AnswersRead};
+ghost use Rattle.jrn_codec.specs.inner.Reading.{mark_at, optional_at};
 ghost use Rattle.jrn_codec.specs.Record.{IsEntry, entry_bytes, entry_bytes_1};
-ghost use Rattle.jrn_codec.specs.RecordReading.{day_at, entry_read, entry_with, fate_at, in_century, is_whole_pay, mir_at, mt_of, outcome_at, stamp_at, uetr_at, unfunded_at};
+ghost use Rattle.jrn_codec.specs.inner.RecordReading.{day_at, entry_read, entry_with, fate_at, in_century, is_whole_pay, mir_at, mt_of, outcome_at, stamp_at, uetr_at, unfunded_at};
 
 use crate::fault::EntryFault;
 use crate::field::{byte_at, cut, i32_at, i64_at, long_at};
@@ -35,7 +36,7 @@ pub struct Fate {
     pub outcome: Outcome,
 }
 
-#[tactic(auto, unfolding(crate::specs::Reading::spelled_at))]
+#[tactic(auto, unfolding(crate::specs::inner::Reading::spelled_at))]
 fn mir_at(bytes: &[u8]) -> Result<(Mir, &[u8]), EntryFault>
     ensures { AnswersRead (λ x. (x.0, x.1.now)) result (mir_at bytes.now) }
 {
@@ -46,7 +47,7 @@ fn mir_at(bytes: &[u8]) -> Result<(Mir, &[u8]), EntryFault>
     }
 }
 
-#[tactic(auto, unfolding(crate::specs::Reading::spelled_at))]
+#[tactic(auto, unfolding(crate::specs::inner::Reading::spelled_at))]
 fn some_uetr_at(bytes: &[u8]) -> Result<(Uetr, &[u8]), EntryFault>
     ensures { AnswersRead (λ x. (x.0, x.1.now)) result (uetr_at bytes.now) }
 {
@@ -57,7 +58,7 @@ fn some_uetr_at(bytes: &[u8]) -> Result<(Uetr, &[u8]), EntryFault>
     }
 }
 
-#[tactic(auto, unfolding(crate::specs::Reading::optional_at))]
+#[tactic(auto, unfolding(crate::specs::inner::Reading::optional_at))]
 fn uetr_at(bytes: &[u8]) -> Result<(Option<Uetr>, &[u8]), EntryFault>
     ensures { AnswersRead (λ x. (x.0, x.1.now)) result (optional_at uetr_at bytes.now) }
 {
@@ -71,7 +72,7 @@ fn uetr_at(bytes: &[u8]) -> Result<(Option<Uetr>, &[u8]), EntryFault>
     }
 }
 
-#[tactic(auto, unfolding(crate::specs::Reading::mark_at))]
+#[tactic(auto, unfolding(crate::specs::inner::Reading::mark_at))]
 fn mt_at(bytes: &[u8]) -> Result<(Mt, &[u8]), EntryFault>
     ensures { AnswersRead (λ x. (x.0, x.1.now)) result (mark_at mt_of bytes.now) }
 {
@@ -83,7 +84,7 @@ fn mt_at(bytes: &[u8]) -> Result<(Mt, &[u8]), EntryFault>
     }
 }
 
-#[tactic(auto, unfolding(crate::specs::RecordReading::stamp_at))]
+#[tactic(auto, unfolding(crate::specs::inner::RecordReading::stamp_at))]
 fn stamp_at(bytes: &[u8]) -> Result<(Stamp, &[u8]), EntryFault>
     ensures { AnswersRead (λ x. (x.0, x.1.now)) result (stamp_at bytes.now) }
 {
@@ -99,7 +100,7 @@ fn is_in_century(day: Day) -> bool
     FIRST_DAY <= day.0 && day.0 <= LAST_DAY
 }
 
-#[tactic(auto, unfolding(crate::specs::RecordReading::day_at))]
+#[tactic(auto, unfolding(crate::specs::inner::RecordReading::day_at))]
 fn day_at(bytes: &[u8]) -> Result<(Day, &[u8]), EntryFault>
     ensures { AnswersRead (λ x. (x.0, x.1.now)) result (day_at bytes.now) }
 {
@@ -111,7 +112,7 @@ fn day_at(bytes: &[u8]) -> Result<(Day, &[u8]), EntryFault>
     Ok((day, rest))
 }
 
-#[tactic(auto, unfolding(crate::specs::RecordReading::unfunded_at))]
+#[tactic(auto, unfolding(crate::specs::inner::RecordReading::unfunded_at))]
 fn unfunded_at(bytes: &[u8]) -> Result<(Outcome, &[u8]), EntryFault>
     ensures { AnswersRead (λ x. (x.0, x.1.now)) result (unfunded_at bytes.now) }
 {
@@ -120,7 +121,7 @@ fn unfunded_at(bytes: &[u8]) -> Result<(Outcome, &[u8]), EntryFault>
     Ok((Outcome::Unfunded { leg, balance }, rest))
 }
 
-#[tactic(auto, unfolding(crate::specs::RecordReading::outcome_at))]
+#[tactic(auto, unfolding(crate::specs::inner::RecordReading::outcome_at))]
 fn outcome_at(bytes: &[u8]) -> Result<(Outcome, &[u8]), EntryFault>
     ensures { AnswersRead (λ x. (x.0, x.1.now)) result (outcome_at bytes.now) }
 {
@@ -132,7 +133,7 @@ fn outcome_at(bytes: &[u8]) -> Result<(Outcome, &[u8]), EntryFault>
     }
 }
 
-#[tactic(auto, unfolding(crate::specs::RecordReading::fate_at))]
+#[tactic(auto, unfolding(crate::specs::inner::RecordReading::fate_at))]
 fn fate_at(bytes: &[u8]) -> Result<(Fate, &[u8]), EntryFault>
     ensures { AnswersRead (λ x. (x.0, x.1.now)) result (fate_at bytes.now) }
 {
@@ -174,7 +175,7 @@ fn entry_with(stamp: Stamp, fate: Fate, legs: List<Leg>, orders: List<Order>, te
     }
 }
 
-#[tactic(auto, unfolding(crate::specs::RecordReading::entry_read))]
+#[tactic(auto, unfolding(crate::specs::inner::RecordReading::entry_read))]
 fn entry_of(alloc: Global, bytes: &[u8]) -> Result<Entry, EntryFault>
     ensures { AnswersRead (λ e. e) result (entry_read bytes.now) }
 {

@@ -5,7 +5,7 @@ ghost use Rattle.corr_ids.specs.Day.{InCentury};
 ghost use Rattle.day_model.specs.Shape.{HasShape, IsLeg, IsQuote, most_text};
 ghost use Rattle.jrn_codec.specs.Record.{IsEntry, IsOutcome, back_bytes, entry_bytes, entry_bytes_1, fate_bytes, front_bytes, leg_bytes, mt_mark, order_bytes, outcome_bytes, posting_bytes, quote_bytes, side_mark, skip_mark, stamp_bytes, most_record_bytes};
 ghost use Rattle.jrn_codec.specs.Spelling.{bic_bytes, listed_bytes, long_bytes, optional_bytes};
-ghost use Rattle.jrn_codec.specs.Writing.{WritesInRoom, IsFrontOf};
+ghost use Rattle.jrn_codec.specs.inner.Writing.{WritesInRoom, IsFrontOf};
 ghost use Rattle.day_model.specs.Chart.{most_accounts};
 
 use crate::writing::{push, push_all};

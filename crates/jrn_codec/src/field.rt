@@ -3,8 +3,8 @@
 
 ghost use Rattle.std.specs.Prelude.{◌≡◌, IfOk, length};
 ghost use Rattle.std.specs.Int.{w16, w32, w64};
-ghost use Rattle.jrn_codec.specs.Answers.{AnswersRead};
-ghost use Rattle.jrn_codec.specs.Reading.{cut, byte_at, number_at, signed_at, bic_at, short_at, long_at};
+ghost use Rattle.jrn_codec.specs.inner.Answers.{AnswersRead};
+ghost use Rattle.jrn_codec.specs.inner.Reading.{cut, byte_at, number_at, signed_at, bic_at, short_at, long_at};
 
 use crate::fault::EntryFault;
 use corr_ids::{Bic, read_bic};
@@ -67,7 +67,7 @@ pub fn u64_at(bytes: &[u8]) -> Result<(u64, &[u8]), EntryFault>
 }
 
 /// A signed number of four bytes, in two's complement.
-#[tactic(auto, unfolding(crate::specs::Reading::signed_at))]
+#[tactic(auto, unfolding(crate::specs::inner::Reading::signed_at))]
 pub fn i32_at(bytes: &[u8]) -> Result<(i32, &[u8]), EntryFault>
     ensures { AnswersRead (λ x. (x.0, x.1.now)) result (signed_at w32 bytes.now) }
 {
@@ -76,7 +76,7 @@ pub fn i32_at(bytes: &[u8]) -> Result<(i32, &[u8]), EntryFault>
 }
 
 /// A signed number of eight bytes, in two's complement.
-#[tactic(auto, unfolding(crate::specs::Reading::signed_at))]
+#[tactic(auto, unfolding(crate::specs::inner::Reading::signed_at))]
 pub fn i64_at(bytes: &[u8]) -> Result<(i64, &[u8]), EntryFault>
     ensures { AnswersRead (λ x. (x.0, x.1.now)) result (signed_at w64 bytes.now) }
 {
@@ -85,7 +85,7 @@ pub fn i64_at(bytes: &[u8]) -> Result<(i64, &[u8]), EntryFault>
 }
 
 /// A BIC of 11 characters.
-#[tactic(auto, unfolding(crate::specs::Reading::spelled_at))]
+#[tactic(auto, unfolding(crate::specs::inner::Reading::spelled_at))]
 pub fn bic_at(bytes: &[u8]) -> Result<(Bic, &[u8]), EntryFault>
     ensures { AnswersRead (λ x. (x.0, x.1.now)) result (bic_at bytes.now) }
 {
@@ -97,7 +97,7 @@ pub fn bic_at(bytes: &[u8]) -> Result<(Bic, &[u8]), EntryFault>
 }
 
 /// Bytes after their number in one byte.
-#[tactic(auto, unfolding(crate::specs::Reading::short_at))]
+#[tactic(auto, unfolding(crate::specs::inner::Reading::short_at))]
 pub fn short_at(bytes: &[u8]) -> Result<(&[u8], &[u8]), EntryFault>
     ensures { AnswersRead (λ x. (x.0.now, x.1.now)) result (short_at bytes.now) }
 {
@@ -106,7 +106,7 @@ pub fn short_at(bytes: &[u8]) -> Result<(&[u8], &[u8]), EntryFault>
 }
 
 /// Bytes after their number in four bytes.
-#[tactic(auto, unfolding(crate::specs::Reading::long_at))]
+#[tactic(auto, unfolding(crate::specs::inner::Reading::long_at))]
 pub fn long_at(bytes: &[u8]) -> Result<(&[u8], &[u8]), EntryFault>
     ensures { AnswersRead (λ x. (x.0.now, x.1.now)) result (long_at bytes.now) }
 {

@@ -2,10 +2,11 @@
 
 ghost use Rattle.std.specs.Prelude.{◌≡◌, IfOk, length};
 ghost use Rattle.day_model.specs.Chart.{Chart, IsChart};
-ghost use Rattle.jrn_codec.specs.Answers.{AnswersRead, IsGiven};
+ghost use Rattle.jrn_codec.specs.Answers.{IsGiven};
+ghost use Rattle.jrn_codec.specs.inner.Answers.{AnswersRead};
 ghost use Rattle.jrn_codec.specs.Header.{IsHead, head_bytes, head_bytes_1, headed_bytes};
-ghost use Rattle.jrn_codec.specs.HeaderReading.{account_read, balances_at, chart_read, header_read, unchanged};
-ghost use Rattle.jrn_codec.specs.Reading.{items_at};
+ghost use Rattle.jrn_codec.specs.inner.HeaderReading.{account_read, balances_at, chart_read, header_read, unchanged};
+ghost use Rattle.jrn_codec.specs.inner.Reading.{items_at};
 
 use crate::fault::EntryFault;
 use crate::field::{bic_at, byte_at, cut, i64_at, short_at, u16_at};
@@ -36,7 +37,7 @@ pub const VERSION: [u8; 6] = *b"CORRJ2";
 /// Those of version 1.
 const VERSION_1: [u8; 6] = *b"CORRJ1";
 
-#[tactic(auto, unfolding(crate::specs::HeaderReading::balances_at))]
+#[tactic(auto, unfolding(crate::specs::inner::HeaderReading::balances_at))]
 fn balances_at(bytes: &[u8]) -> Result<(Balances, &[u8]), EntryFault>
     ensures { AnswersRead (λ x. (x.0, x.1.now)) result (balances_at bytes.now) }
 {
@@ -54,7 +55,7 @@ fn balances_at(bytes: &[u8]) -> Result<(Balances, &[u8]), EntryFault>
 }
 
 /// An account, in the form of its columns or not.
-#[tactic(auto, unfolding(crate::specs::HeaderReading::account_read))]
+#[tactic(auto, unfolding(crate::specs::inner::HeaderReading::account_read))]
 pub fn account_at(alloc: Global, bytes: &[u8]) -> Result<(Account, &[u8]), EntryFault>
     ensures { AnswersRead (λ x. (x.0, x.1.now)) result (account_read bytes.now) }
 {
@@ -94,7 +95,7 @@ fn accounts_of(
     Ok((accounts, rest))
 }
 
-#[tactic(auto, unfolding(crate::specs::HeaderReading::chart_read))]
+#[tactic(auto, unfolding(crate::specs::inner::HeaderReading::chart_read))]
 fn rows_of(alloc: Global, bytes: &[u8]) -> Result<Rows, EntryFault>
     ensures { AnswersRead (λ rows. unchanged rows.home rows.accounts) result (chart_read bytes.now) }
 {
@@ -107,7 +108,7 @@ fn rows_of(alloc: Global, bytes: &[u8]) -> Result<Rows, EntryFault>
     Ok(Rows { home, accounts })
 }
 
-#[tactic(auto, unfolding(crate::specs::HeaderReading::header_read))]
+#[tactic(auto, unfolding(crate::specs::inner::HeaderReading::header_read))]
 fn head_of(alloc: Global, version: &[u8; 6], bytes: &[u8]) -> Result<Rows, EntryFault>
     ensures { AnswersRead (λ rows. unchanged rows.home rows.accounts) result (header_read version.now bytes.now) }
 {

@@ -7,7 +7,7 @@ ghost use Rattle.corr_ids.specs.Bic.{IsBic};
 ghost use Rattle.jrn_codec.specs.Header.{IsHead, account_bytes, balance_bytes, column_bytes, head_bytes, title_bytes, version};
 ghost use Rattle.jrn_codec.specs.Change.{BalancesFit};
 ghost use Rattle.jrn_codec.specs.Spelling.{signed_bytes};
-ghost use Rattle.jrn_codec.specs.Writing.{IsFrontOf};
+ghost use Rattle.jrn_codec.specs.inner.Writing.{IsFrontOf};
 
 use crate::header::VERSION;
 use corr_ids::{Bic, with_branch};

@@ -4,9 +4,9 @@ ghost use Rattle.std.specs.Prelude.{◌≡◌, ◌==◌, ◌&&◌};
 ghost use Rattle.std.specs.List.{list_any, zip};
 ghost use Rattle.corr_text.specs.declared.set.Set.TheVariants.{X};
 ghost use Rattle.corr_text.specs.Slashes.{has_double_slash, has_stray_slash};
-ghost use Rattle.jrn_codec.specs.Answers.{AnswersRead};
-ghost use Rattle.jrn_codec.specs.Reading.{byte_at, items_at, listed_at, mark_at};
-ghost use Rattle.jrn_codec.specs.RecordReading.{is_reference, leg_at, ours_at, quote_at, side_of, theirs_at};
+ghost use Rattle.jrn_codec.specs.inner.Answers.{AnswersRead};
+ghost use Rattle.jrn_codec.specs.inner.Reading.{byte_at, items_at, listed_at, mark_at};
+ghost use Rattle.jrn_codec.specs.inner.RecordReading.{is_reference, leg_at, ours_at, quote_at, side_of, theirs_at};
 
 use crate::fault::EntryFault;
 use crate::field::{byte_at, short_at, u16_at, u64_at};
@@ -47,7 +47,7 @@ fn is_reference(text: &[u8]) -> bool
     1 <= text.len() && text.len() <= 16 && is_all_of(Set::X, text) && !has_stray_slash(text)
 }
 
-#[tactic(auto, unfolding(crate::specs::RecordReading::theirs_at))]
+#[tactic(auto, unfolding(crate::specs::inner::RecordReading::theirs_at))]
 fn theirs_at(alloc: Global, bytes: &[u8]) -> Result<(Quote, &[u8]), EntryFault>
     ensures { AnswersRead (λ x. (x.0, x.1.now)) result (theirs_at bytes.now) }
 {
@@ -58,7 +58,7 @@ fn theirs_at(alloc: Global, bytes: &[u8]) -> Result<(Quote, &[u8]), EntryFault>
     Ok((Quote::Theirs(Text::from_bytes(alloc, text)?), rest))
 }
 
-#[tactic(auto, unfolding(crate::specs::RecordReading::ours_at))]
+#[tactic(auto, unfolding(crate::specs::inner::RecordReading::ours_at))]
 fn ours_at(bytes: &[u8]) -> Result<(Quote, &[u8]), EntryFault>
     ensures { AnswersRead (λ x. (x.0, x.1.now)) result (ours_at bytes.now) }
 {
@@ -66,7 +66,7 @@ fn ours_at(bytes: &[u8]) -> Result<(Quote, &[u8]), EntryFault>
     Ok((Quote::Ours(k), rest))
 }
 
-#[tactic(auto, unfolding(crate::specs::RecordReading::quote_at))]
+#[tactic(auto, unfolding(crate::specs::inner::RecordReading::quote_at))]
 fn quote_at(alloc: Global, bytes: &[u8]) -> Result<(Quote, &[u8]), EntryFault>
     ensures { AnswersRead (λ x. (x.0, x.1.now)) result (quote_at bytes.now) }
 {
@@ -78,7 +78,7 @@ fn quote_at(alloc: Global, bytes: &[u8]) -> Result<(Quote, &[u8]), EntryFault>
     }
 }
 
-#[tactic(auto, unfolding(crate::specs::Reading::mark_at))]
+#[tactic(auto, unfolding(crate::specs::inner::Reading::mark_at))]
 fn side_at(bytes: &[u8]) -> Result<(Side, &[u8]), EntryFault>
     ensures { AnswersRead (λ x. (x.0, x.1.now)) result (mark_at side_of bytes.now) }
 {
@@ -90,7 +90,7 @@ fn side_at(bytes: &[u8]) -> Result<(Side, &[u8]), EntryFault>
     }
 }
 
-#[tactic(auto, unfolding(crate::specs::RecordReading::leg_at))]
+#[tactic(auto, unfolding(crate::specs::inner::RecordReading::leg_at))]
 fn leg_at(alloc: Global, bytes: &[u8]) -> Result<(Leg, &[u8]), EntryFault>
     ensures { AnswersRead (λ x. (x.0, x.1.now)) result (leg_at bytes.now) }
 {
@@ -124,7 +124,7 @@ fn legs_of(alloc: Global, count: u8, bytes: &[u8]) -> Result<(List<Leg>, &[u8]),
 }
 
 /// Legs after their number in one byte.
-#[tactic(auto, unfolding(crate::specs::Reading::listed_at))]
+#[tactic(auto, unfolding(crate::specs::inner::Reading::listed_at))]
 pub fn legs_at(alloc: Global, bytes: &[u8]) -> Result<(List<Leg>, &[u8]), EntryFault>
     ensures { AnswersRead (λ x. (x.0, x.1.now)) result (listed_at leg_at bytes.now) }
 {

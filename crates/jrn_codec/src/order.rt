@@ -1,8 +1,8 @@
 //! Reading orders.
 
-ghost use Rattle.jrn_codec.specs.Answers.{AnswersRead};
-ghost use Rattle.jrn_codec.specs.Reading.{bic_at, items_at, listed_at, mark_at, optional_at};
-ghost use Rattle.jrn_codec.specs.RecordReading.{cover_at, credit_at, debit_at, noticed_at, order_at, pass_at, skip_marked, transfer_at};
+ghost use Rattle.jrn_codec.specs.inner.Answers.{AnswersRead};
+ghost use Rattle.jrn_codec.specs.inner.Reading.{bic_at, items_at, listed_at, mark_at, optional_at};
+ghost use Rattle.jrn_codec.specs.inner.RecordReading.{cover_at, credit_at, debit_at, noticed_at, order_at, pass_at, skip_marked, transfer_at};
 
 use crate::fault::EntryFault;
 use crate::field::{bic_at, byte_at};
@@ -11,7 +11,7 @@ use corr_text::List;
 use day_model::{Order, Skip};
 use std::alloc::Global;
 
-#[tactic(auto, unfolding(crate::specs::Reading::mark_at))]
+#[tactic(auto, unfolding(crate::specs::inner::Reading::mark_at))]
 fn skip_at(bytes: &[u8]) -> Result<(Skip, &[u8]), EntryFault>
     ensures { AnswersRead (λ x. (x.0, x.1.now)) result (mark_at skip_marked bytes.now) }
 {
@@ -24,7 +24,7 @@ fn skip_at(bytes: &[u8]) -> Result<(Skip, &[u8]), EntryFault>
     }
 }
 
-#[tactic(auto, unfolding(crate::specs::Reading::optional_at))]
+#[tactic(auto, unfolding(crate::specs::inner::Reading::optional_at))]
 fn via_at(bytes: &[u8]) -> Result<(Option<Bic>, &[u8]), EntryFault>
     ensures { AnswersRead (λ x. (x.0, x.1.now)) result (optional_at bic_at bytes.now) }
 {
@@ -38,7 +38,7 @@ fn via_at(bytes: &[u8]) -> Result<(Option<Bic>, &[u8]), EntryFault>
     }
 }
 
-#[tactic(auto, unfolding(crate::specs::RecordReading::transfer_at))]
+#[tactic(auto, unfolding(crate::specs::inner::RecordReading::transfer_at))]
 fn transfer_at(bytes: &[u8]) -> Result<(Order, &[u8]), EntryFault>
     ensures { AnswersRead (λ x. (x.0, x.1.now)) result (transfer_at bytes.now) }
 {
@@ -48,7 +48,7 @@ fn transfer_at(bytes: &[u8]) -> Result<(Order, &[u8]), EntryFault>
     Ok((Order::Transfer { to, skip, via }, rest))
 }
 
-#[tactic(auto, unfolding(crate::specs::RecordReading::cover_at))]
+#[tactic(auto, unfolding(crate::specs::inner::RecordReading::cover_at))]
 fn cover_at(bytes: &[u8]) -> Result<(Order, &[u8]), EntryFault>
     ensures { AnswersRead (λ x. (x.0, x.1.now)) result (cover_at bytes.now) }
 {
@@ -58,7 +58,7 @@ fn cover_at(bytes: &[u8]) -> Result<(Order, &[u8]), EntryFault>
     Ok((Order::Cover { to, end, skip }, rest))
 }
 
-#[tactic(auto, unfolding(crate::specs::RecordReading::pass_at))]
+#[tactic(auto, unfolding(crate::specs::inner::RecordReading::pass_at))]
 fn pass_at(bytes: &[u8]) -> Result<(Order, &[u8]), EntryFault>
     ensures { AnswersRead (λ x. (x.0, x.1.now)) result (pass_at bytes.now) }
 {
@@ -67,7 +67,7 @@ fn pass_at(bytes: &[u8]) -> Result<(Order, &[u8]), EntryFault>
     Ok((Order::Pass { to, skip }, rest))
 }
 
-#[tactic(auto, unfolding(crate::specs::RecordReading::noticed_at))]
+#[tactic(auto, unfolding(crate::specs::inner::RecordReading::noticed_at))]
 fn noticed_at(legs: usize, bytes: &[u8]) -> Result<((Bic, u8), &[u8]), EntryFault>
     ensures { AnswersRead (λ x. (x.0, x.1.now)) result (noticed_at legs bytes.now) }
 {
@@ -79,7 +79,7 @@ fn noticed_at(legs: usize, bytes: &[u8]) -> Result<((Bic, u8), &[u8]), EntryFaul
     Ok(((to, leg), rest))
 }
 
-#[tactic(auto, unfolding(crate::specs::RecordReading::debit_at))]
+#[tactic(auto, unfolding(crate::specs::inner::RecordReading::debit_at))]
 fn debit_at(legs: usize, bytes: &[u8]) -> Result<(Order, &[u8]), EntryFault>
     ensures { AnswersRead (λ x. (x.0, x.1.now)) result (debit_at legs bytes.now) }
 {
@@ -87,7 +87,7 @@ fn debit_at(legs: usize, bytes: &[u8]) -> Result<(Order, &[u8]), EntryFault>
     Ok((Order::Debit { to, leg }, rest))
 }
 
-#[tactic(auto, unfolding(crate::specs::RecordReading::credit_at))]
+#[tactic(auto, unfolding(crate::specs::inner::RecordReading::credit_at))]
 fn credit_at(legs: usize, bytes: &[u8]) -> Result<(Order, &[u8]), EntryFault>
     ensures { AnswersRead (λ x. (x.0, x.1.now)) result (credit_at legs bytes.now) }
 {
@@ -95,7 +95,7 @@ fn credit_at(legs: usize, bytes: &[u8]) -> Result<(Order, &[u8]), EntryFault>
     Ok((Order::Credit { to, leg }, rest))
 }
 
-#[tactic(auto, unfolding(crate::specs::RecordReading::order_at))]
+#[tactic(auto, unfolding(crate::specs::inner::RecordReading::order_at))]
 fn order_at(legs: usize, bytes: &[u8]) -> Result<(Order, &[u8]), EntryFault>
     ensures { AnswersRead (λ x. (x.0, x.1.now)) result (order_at legs bytes.now) }
 {
@@ -129,7 +129,7 @@ fn orders_of(
 }
 
 /// Orders after their number in one byte; a leg that an order names is one of so many.
-#[tactic(auto, unfolding(crate::specs::Reading::listed_at))]
+#[tactic(auto, unfolding(crate::specs::inner::Reading::listed_at))]
 pub fn orders_at(
     alloc: Global,
     legs: usize,

@@ -1,7 +1,7 @@
 //! Writing fields into a buffer. Each writing succeeds where there is room for what it adds.
 
 ghost use Rattle.std.specs.Prelude.{◌≡◌, ◌++◌, flat_map, OnOk};
-ghost use Rattle.jrn_codec.specs.Writing.{WritesInRoom, IsFrontOf};
+ghost use Rattle.jrn_codec.specs.inner.Writing.{WritesInRoom, IsFrontOf};
 
 use corr_text::{Buf, Memory};
 

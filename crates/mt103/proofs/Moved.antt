@@ -5,7 +5,8 @@ use Rattle.ref_tables.specs.Seen.{Tables}
 use Rattle.fin_fields.specs.declared.field.Field.{Field}
 use Rattle.fin_layout.specs.declared.place.Place.{Place}
 use Rattle.fin_layout.specs.Order.{places_from}
-use Rattle.fin_layout.specs.Segments.{joined, places_of}
+use Rattle.fin_layout.specs.Segments.{joined}
+use Rattle.fin_layout.specs.inner.Segments.{places_of}
 use Rattle.fin_parties.specs.Writing.{party_field}
 use Rattle.fin_parties.specs.declared.party.Party.{Party}
 use Rattle.fin_contents.specs.Money.{ccy_amount_of, rate_of, value_of}
@@ -18,8 +19,9 @@ use Rattle.fin_contents.proofs.laws.Placed.{each-of, party-again-at}
 use Rattle.fin_contents.proofs.laws.Said.{HoldsInPlaces, Stands, stand}
 use Rattle.mt103.specs.Codes.{charge_of, instr_of, kind_of, operation_of}
 use Rattle.mt103.specs.Message.{contents_of}
-use Rattle.mt103.specs.Parts.{Details, Parties, Terms, transfer_of_parts}
-use Rattle.mt103.specs.Writing.{AreAmounts, instr_field, segments}
+use Rattle.mt103.specs.inner.Parts.{Details, Parties, Terms, transfer_of_parts}
+use Rattle.mt103.specs.Writing.{instr_field, segments}
+use Rattle.mt103.specs.inner.Writing.{AreAmounts}
 use Rattle.mt103.specs.declared.instruction.Instr.{Instr}
 use Rattle.mt103.specs.declared.message.Mt103.{Mt103}
 use Rattle.mt103.specs.Order.{order_103}

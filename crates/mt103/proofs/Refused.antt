@@ -10,7 +10,7 @@ use Rattle.fin_contents.specs.Parties.{known_party_of}
 use Rattle.fin_contents.specs.Plain.{reference_of, texts_of, time_of}
 use Rattle.mt103.specs.Codes.{charge_of, instr_of, kind_of, operation_of}
 use Rattle.mt103.specs.Message.{content_test, contents_of}
-use Rattle.mt103.specs.Parts.{Details, Parties, Terms, contents_in_parts, details_of, parties_of, terms_of}
+use Rattle.mt103.specs.inner.Parts.{Details, Parties, Terms, contents_in_parts, details_of, parties_of, terms_of}
 use Rattle.mt103.specs.Order.{order_103}
 use Rattle.mt103.proofs.laws.Parts.{contents-are}
 

@@ -6,7 +6,8 @@ use Rattle.ref_tables.specs.Seen.{Tables}
 use Rattle.fin_fields.specs.declared.field.Field.{Field}
 use Rattle.fin_fields.specs.Writing.{IsField}
 use Rattle.fin_layout.specs.Order.{missing_from, places_from}
-use Rattle.fin_layout.specs.Segments.{Segments, joined, places_of}
+use Rattle.fin_layout.specs.Segments.{joined}
+use Rattle.fin_layout.specs.inner.Segments.{Segments, places_of}
 use Rattle.fin_layout.specs.Tests.{passed, structure_tests}
 use Rattle.fin_layout.proofs.laws.FoundField.{grouped-taken}
 use Rattle.fin_layout.proofs.laws.Grouped.{grouped-places, grouped-structure}
@@ -15,7 +16,8 @@ use Rattle.fin_contents.proofs.laws.Placed.{Each, each-joined}
 use Rattle.fin_contents.proofs.laws.Steps.{read-then}
 use Rattle.mt103.specs.Instructions.{d98, e46}
 use Rattle.mt103.specs.Message.{contents_of, field_tests, mt103_of}
-use Rattle.mt103.specs.Writing.{AreAmounts, mt103_fields, segments}
+use Rattle.mt103.specs.Writing.{mt103_fields, segments}
+use Rattle.mt103.specs.inner.Writing.{AreAmounts}
 use Rattle.mt103.specs.declared.message.Mt103.{Mt103}
 use Rattle.mt103.specs.Order.{order_103}
 use Rattle.mt103.proofs.Moved.{contents-moved}

@@ -10,7 +10,7 @@ use Rattle.fin_fields.specs.Writing.{IsField}
 use Rattle.fin_layout.specs.declared.place.Place.{Place}
 use Rattle.fin_layout.specs.Contents.{in_option, in_place}
 use Rattle.fin_layout.specs.Order.{places_from}
-use Rattle.fin_layout.specs.Segments.{Segments}
+use Rattle.fin_layout.specs.inner.Segments.{Segments}
 use Rattle.fin_layout.proofs.laws.PlaceByPlace.{Placed, ◌▸◌, no-more, opening}
 use Rattle.fin_parties.specs.Writing.{party_field}
 use Rattle.fin_parties.specs.declared.party.Party.{Party}
@@ -25,8 +25,9 @@ use Rattle.fin_contents.proofs.laws.PartyPlaces.{one-party, some-party}
 use Rattle.fin_contents.proofs.laws.Placed.{Each, all-each, all-of, all-segment, lines-each, lines-segment, one-segment, each-append, party-fit-at, some-each, some-segment}
 use Rattle.fin_contents.proofs.laws.Said.{HoldsInPlaces, Said, Stands, said-all, said-one, said-option, stand}
 use Rattle.mt103.specs.Codes.{charge_of, instr_of, kind_of, operation_of}
-use Rattle.mt103.specs.Parts.{Details, Parties, Terms, transfer_of_parts}
-use Rattle.mt103.specs.Writing.{AreAmounts, detail_segments, instr_field, money_fields, head_segments, party_segments, segments, text_after}
+use Rattle.mt103.specs.inner.Parts.{Details, Parties, Terms, transfer_of_parts}
+use Rattle.mt103.specs.Writing.{detail_segments, instr_field, money_fields, head_segments, party_segments, segments, text_after}
+use Rattle.mt103.specs.inner.Writing.{AreAmounts}
 use Rattle.mt103.specs.declared.instruction.Instr.{Instr}
 use Rattle.mt103.specs.Order.{order_103}
 use Rattle.mt103.proofs.Kept.{charge-kept, instr-kept, kind-kept, operation-kept}

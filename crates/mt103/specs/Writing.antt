@@ -1,10 +1,10 @@
 -- An MT103 written as fields.
-use Rattle.std.specs.Prelude.{ℕ, List, [], ◌∷◌, ◌++◌, All, IfSome, map, Option, Some, None}
+use Rattle.std.specs.Prelude.{ℕ, List, [], ◌∷◌, ◌++◌, map, Option, Some, None}
 use Rattle.fin_fields.specs.declared.field.Field.{Field}
 use Rattle.fin_layout.specs.Segments.{joined}
 use Rattle.fin_parties.specs.Writing.{party_field}
 use Rattle.fin_contents.specs.declared.value.Value.{Value}
-use Rattle.fin_contents.specs.Writing.{IsAmount, IsValue, ccy_amount_field, line_field, lines_fields, some_field, value_field}
+use Rattle.fin_contents.specs.Writing.{ccy_amount_field, line_field, lines_fields, some_field, value_field}
 use Rattle.mt103.specs.declared.instruction.Instr.{Instr}
 use Rattle.mt103.specs.declared.message.Mt103.{Mt103}
 
@@ -70,10 +70,3 @@ segments m = head_segments m ++ money_fields m ++ party_segments m ++ detail_seg
 -- the fields of a transfer, in the order of their places
 unfoldable pub mt103_fields : Mt103 → List Field
 mt103_fields m = joined (segments m)
-
--- its amounts can be written
-pub record AreAmounts (m : Mt103) : Type 0 where
-  pub value : IsValue (value_said m)
-  pub ordered : IfSome m.ordered IsAmount
-  pub taken : All IsAmount m.taken
-  pub given : IfSome m.given IsAmount

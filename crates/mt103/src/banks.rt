@@ -3,7 +3,7 @@
 ghost use Rattle.std.specs.Prelude.{◌≡◌, ◌≤◌, None, OnOk, length};
 ghost use Rattle.fin_fields.specs.Fields.{most_text_lines};
 ghost use Rattle.fin_layout.specs.Reading.{Fills};
-ghost use Rattle.mt103.specs.Parts.{banks_into, with_banks};
+ghost use Rattle.mt103.specs.inner.Parts.{banks_into, with_banks};
 
 use crate::message::Mt103;
 use crate::places::{
@@ -16,7 +16,7 @@ use fin_layout::{Found, MtFault, read_optional, takes_any};
 use ref_tables::RefTables;
 use std::alloc::Global;
 
-#[tactic(auto, unfolding(crate::specs::Parts::banks_into))]
+#[tactic(auto, unfolding(crate::specs::inner::Parts::banks_into))]
 fn read_banks(
     alloc: Global,
     tables: &RefTables,

@@ -3,7 +3,7 @@
 ghost use Rattle.std.specs.Prelude.{◌≡◌, ◌≤◌, [], None, OnOk, length};
 ghost use Rattle.fin_fields.specs.Fields.{most_text_lines};
 ghost use Rattle.fin_layout.specs.Reading.{Fills};
-ghost use Rattle.mt103.specs.Parts.{closing_into, with_closing};
+ghost use Rattle.mt103.specs.inner.Parts.{closing_into, with_closing};
 
 use crate::message::Mt103;
 use crate::places::{GIVEN, NOTES, REGULATORY, TAKEN};
@@ -14,7 +14,7 @@ use fin_layout::{Found, MtFault, read_all, read_optional, takes_any};
 use ref_tables::RefTables;
 use std::alloc::Global;
 
-#[tactic(auto, unfolding(crate::specs::Parts::closing_into))]
+#[tactic(auto, unfolding(crate::specs::inner::Parts::closing_into))]
 fn read_closing(
     alloc: Global,
     tables: &RefTables,

@@ -3,7 +3,7 @@
 ghost use Rattle.std.specs.Prelude.{◌≡◌, ◌≤◌, OnOk, length};
 ghost use Rattle.fin_fields.specs.Fields.{most_text_lines};
 ghost use Rattle.fin_layout.specs.Reading.{Fills};
-ghost use Rattle.mt103.specs.Parts.{details_into, info_of};
+ghost use Rattle.mt103.specs.inner.Parts.{details_into, info_of};
 
 use crate::closing::fill_closing;
 use crate::message::Mt103;
@@ -19,7 +19,7 @@ use std::alloc::Global;
 
 // Puts the lines of 70 into a list, none without the field.
 #[inline(never)]
-#[tactic(auto, unfolding(crate::specs::Parts::info_of))]
+#[tactic(auto, unfolding(crate::specs::inner::Parts::info_of))]
 fn read_info(
     alloc: Global,
     fields: &[FieldLines<'_>],
@@ -54,7 +54,7 @@ fn fill_info(
 }
 
 /// Puts what fields at these places say in 70 to 77B into a message.
-#[tactic(auto, unfolding(crate::specs::Parts::details_into))]
+#[tactic(auto, unfolding(crate::specs::inner::Parts::details_into))]
 pub fn fill_details(
     alloc: Global,
     tables: &RefTables,

@@ -3,7 +3,7 @@
 ghost use Rattle.std.specs.Prelude.{◌≡◌, ◌≤◌, OnOk, length};
 ghost use Rattle.fin_fields.specs.Fields.{most_text_lines};
 ghost use Rattle.fin_layout.specs.Reading.{Fills};
-ghost use Rattle.mt103.specs.Parts.{parties_into};
+ghost use Rattle.mt103.specs.inner.Parts.{parties_into};
 
 use crate::banks::fill_banks;
 use crate::message::Mt103;
@@ -16,7 +16,7 @@ use ref_tables::RefTables;
 use std::alloc::Global;
 
 /// Puts what fields at these places say in 50a to 59a into a message.
-#[tactic(auto, unfolding(crate::specs::Parts::parties_into))]
+#[tactic(auto, unfolding(crate::specs::inner::Parts::parties_into))]
 pub fn fill_parties(
     alloc: Global,
     tables: &RefTables,

@@ -3,7 +3,7 @@
 ghost use Rattle.std.specs.Prelude.{◌≤◌, OnOk, length};
 ghost use Rattle.fin_fields.specs.Fields.{most_text_lines};
 ghost use Rattle.fin_layout.specs.Reading.{Fills};
-ghost use Rattle.mt103.specs.Parts.{contents_into};
+ghost use Rattle.mt103.specs.inner.Parts.{contents_into};
 
 use crate::details::fill_details;
 use crate::message::Mt103;
@@ -16,7 +16,7 @@ use std::alloc::Global;
 
 /// Puts what fields at these places say into a message, whatever it said. `Bad`: what is wrong with the first that is refused, or
 /// P23 where one that must be there is missing before it; then the message may say anything.
-#[tactic(auto, unfolding(crate::specs::Parts::contents_into))]
+#[tactic(auto, unfolding(crate::specs::inner::Parts::contents_into))]
 pub fn fill_contents(
     alloc: Global,
     tables: &RefTables,

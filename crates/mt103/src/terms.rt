@@ -3,7 +3,7 @@
 ghost use Rattle.std.specs.Prelude.{◌≤◌, OnOk, length};
 ghost use Rattle.fin_fields.specs.Fields.{most_text_lines};
 ghost use Rattle.fin_layout.specs.Reading.{Fills};
-ghost use Rattle.mt103.specs.Parts.{terms_into};
+ghost use Rattle.mt103.specs.inner.Parts.{terms_into};
 
 use crate::instruction::Instruction;
 use crate::kind::Kind;
@@ -18,7 +18,7 @@ use ref_tables::RefTables;
 use std::alloc::Global;
 
 /// Puts what fields at these places say in 20 to 36 into a message.
-#[tactic(auto, unfolding(crate::specs::Parts::terms_into, crate::specs::Parts::terms_of))]
+#[tactic(auto, unfolding(crate::specs::inner::Parts::terms_into, crate::specs::inner::Parts::terms_of))]
 pub fn fill_terms(
     alloc: Global,
     tables: &RefTables,

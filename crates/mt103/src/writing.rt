@@ -8,7 +8,8 @@ ghost use Rattle.fin_fields.specs.Writing.{fields_text};
 ghost use Rattle.fin_fields.specs.declared.field.Field.{Field as FieldSeen};
 ghost use Rattle.fin_layout.specs.Segments.{joined};
 ghost use Rattle.mt103.specs.Message.{mt103_of};
-ghost use Rattle.mt103.specs.Writing.{AreAmounts, detail_segments, instr_field, money_fields, mt103_fields, head_segments, party_segments, text_after};
+ghost use Rattle.mt103.specs.Writing.{detail_segments, instr_field, money_fields, mt103_fields, head_segments, party_segments, text_after};
+ghost use Rattle.mt103.specs.inner.Writing.{AreAmounts};
 ghost use Rattle.ref_tables.specs.Seen.{Tables};
 
 use crate::instruction::Instr;

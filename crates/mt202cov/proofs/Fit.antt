@@ -20,7 +20,8 @@ use Rattle.fin_contents.proofs.laws.Back.{each-weaker, some-weaker}
 use Rattle.fin_contents.proofs.laws.Fit.{ccy_amount-fit, kept-fit, value-fit}
 use Rattle.fin_contents.proofs.laws.Placed.{Each, all-each, each-append, each-joined, lines-each, party-fit-at, some-each}
 use Rattle.fin_contents.proofs.laws.Said.{HoldsInPlaces, Said, Stands, said-all, said-one, said-option}
-use Rattle.mt202cov.specs.Writing.{AreAmounts, bank_fields, segments, sequence_a_fields, sequence_b_fields, terms_fields, value_said}
+use Rattle.mt202cov.specs.Writing.{bank_fields, segments, sequence_a_fields, sequence_b_fields, terms_fields, value_said}
+use Rattle.mt202cov.specs.inner.Writing.{AreAmounts}
 use Rattle.mt202cov.specs.declared.message.Mt202Cov.{Mt202Cov}
 use Rattle.mt202cov.specs.Order.{order_202}
 use Rattle.mt202cov.proofs.Readings.{LinesRead, Readings}

@@ -9,7 +9,7 @@ use Rattle.fin_contents.specs.Money.{ccy_amount_of, value_of}
 use Rattle.fin_contents.specs.Parties.{known_party_of}
 use Rattle.fin_contents.specs.Plain.{reference_of, texts_of, time_of}
 use Rattle.mt202cov.specs.Message.{content_test, contents_of}
-use Rattle.mt202cov.specs.Parts.{banks_of, beneficiary_side_of, contents_in_parts, customers_of, details_of, payee_side_of, payer_side_of, sender_side_of, sequence_a_of, sequence_b_of, terms_of}
+use Rattle.mt202cov.specs.inner.Parts.{banks_of, beneficiary_side_of, contents_in_parts, customers_of, details_of, payee_side_of, payer_side_of, sender_side_of, sequence_a_of, sequence_b_of, terms_of}
 use Rattle.mt202cov.specs.declared.banks.Banks.{Banks}
 use Rattle.mt202cov.specs.declared.banks.BeneficiarySide.{BeneficiarySide}
 use Rattle.mt202cov.specs.declared.banks.SenderSide.{SenderSide}

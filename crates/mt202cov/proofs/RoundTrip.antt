@@ -6,7 +6,8 @@ use Rattle.ref_tables.specs.Seen.{Tables}
 use Rattle.fin_fields.specs.declared.field.Field.{Field}
 use Rattle.fin_fields.specs.Writing.{IsField}
 use Rattle.fin_layout.specs.Order.{places_from}
-use Rattle.fin_layout.specs.Segments.{joined, places_of}
+use Rattle.fin_layout.specs.Segments.{joined}
+use Rattle.fin_layout.specs.inner.Segments.{places_of}
 use Rattle.fin_layout.specs.Tests.{passed}
 use Rattle.fin_layout.proofs.laws.FoundField.{grouped-taken}
 use Rattle.fin_layout.proofs.laws.Grouped.{grouped-places, grouped-structure}
@@ -19,7 +20,8 @@ use Rattle.fin_contents.proofs.laws.Said.{Said, Stands, said-one, said-option, s
 use Rattle.fin_contents.proofs.laws.Steps.{read-then}
 use Rattle.mt202cov.specs.Message.{contents_of, field_tests, mt202cov_of}
 use Rattle.mt202cov.specs.Rules.{all_rules}
-use Rattle.mt202cov.specs.Writing.{AreAmounts, mt202cov_fields, segments, value_said}
+use Rattle.mt202cov.specs.Writing.{mt202cov_fields, segments, value_said}
+use Rattle.mt202cov.specs.inner.Writing.{AreAmounts}
 use Rattle.mt202cov.specs.declared.message.Mt202Cov.{Mt202Cov}
 use Rattle.mt202cov.specs.Order.{order_202}
 use Rattle.mt202cov.proofs.Fit.{all-fit}

@@ -7,7 +7,8 @@ use Rattle.fin_fields.specs.declared.field.Field.{Field}
 use Rattle.fin_layout.specs.declared.place.Place.{Place}
 use Rattle.fin_layout.specs.Contents.{all_from, in_option, in_place}
 use Rattle.fin_layout.specs.Order.{missing_from}
-use Rattle.fin_layout.specs.Segments.{Segments, joined, places_of}
+use Rattle.fin_layout.specs.Segments.{joined}
+use Rattle.fin_layout.specs.inner.Segments.{Segments, places_of}
 use Rattle.fin_layout.proofs.laws.PlaceByPlace.{Placed, ◌▸◌, no-more, opening}
 use Rattle.fin_parties.specs.Writing.{party_field}
 use Rattle.fin_parties.specs.declared.party.Party.{Party}
@@ -20,7 +21,8 @@ use Rattle.fin_contents.proofs.laws.Back.{all-moved, each-all, lines-moved, one-
 use Rattle.fin_contents.proofs.laws.PartyPlaces.{one-party, some-party}
 use Rattle.fin_contents.proofs.laws.Placed.{all-segment, lines-segment, one-segment, party-again-at, some-segment}
 use Rattle.fin_contents.proofs.laws.Said.{HoldsInPlaces, Stands}
-use Rattle.mt202cov.specs.Writing.{AreAmounts, segments, value_said}
+use Rattle.mt202cov.specs.Writing.{segments, value_said}
+use Rattle.mt202cov.specs.inner.Writing.{AreAmounts}
 use Rattle.mt202cov.specs.declared.message.Mt202Cov.{Mt202Cov}
 use Rattle.mt202cov.specs.Order.{order_202}
 use Rattle.mt202cov.proofs.Readings.{LinesRead, Readings}

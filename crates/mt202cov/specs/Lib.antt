@@ -1,5 +1,5 @@
 pub mod Rules
 pub mod Message
-pub mod Parts
 pub mod Writing
 pub mod Order
+pub mod inner

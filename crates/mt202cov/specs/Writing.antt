@@ -1,10 +1,10 @@
 -- An MT202 COV written as fields.
-use Rattle.std.specs.Prelude.{List, [], ◌∷◌, ◌++◌, IfSome, map, Some, None}
+use Rattle.std.specs.Prelude.{List, [], ◌∷◌, ◌++◌, map, Some, None}
 use Rattle.fin_fields.specs.declared.field.Field.{Field}
 use Rattle.fin_layout.specs.Segments.{joined}
 use Rattle.fin_parties.specs.Writing.{party_field}
 use Rattle.fin_contents.specs.declared.value.Value.{Value}
-use Rattle.fin_contents.specs.Writing.{IsAmount, IsValue, ccy_amount_field, line_field, lines_fields, some_field, value_field}
+use Rattle.fin_contents.specs.Writing.{ccy_amount_field, line_field, lines_fields, some_field, value_field}
 use Rattle.mt202cov.specs.declared.message.Mt202Cov.{Mt202Cov}
 
 -- the value date and the amount
@@ -55,8 +55,3 @@ segments m = sequence_a_fields m ++ sequence_b_fields m
 -- the fields of a cover, in the order of their places
 unfoldable pub mt202cov_fields : Mt202Cov → List Field
 mt202cov_fields m = joined (segments m)
-
--- its amounts can be written
-pub record AreAmounts (m : Mt202Cov) : Type 0 where
-  pub value : IsValue (value_said m)
-  pub ordered : IfSome m.ordered IsAmount

@@ -3,7 +3,7 @@
 ghost use Rattle.std.specs.Prelude.{◌≤◌, length};
 ghost use Rattle.fin_fields.specs.Fields.{most_text_lines};
 ghost use Rattle.fin_layout.specs.Reading.{Gives};
-ghost use Rattle.mt202cov.specs.Parts.{banks_of, beneficiary_side_of, sender_side_of};
+ghost use Rattle.mt202cov.specs.inner.Parts.{banks_of, beneficiary_side_of, sender_side_of};
 
 use crate::order::ORDER;
 use crate::places::{
@@ -45,7 +45,7 @@ pub struct BeneficiarySide {
 }
 
 /// The banks that fields at the places of sequence A say.
-#[tactic(auto, unfolding(crate::specs::Parts::banks_of))]
+#[tactic(auto, unfolding(crate::specs::inner::Parts::banks_of))]
 pub fn read_banks(
     alloc: Global,
     tables: &RefTables,
@@ -73,7 +73,7 @@ pub fn read_banks(
 }
 
 /// The banks on the sender's side.
-#[tactic(auto, unfolding(crate::specs::Parts::sender_side_of))]
+#[tactic(auto, unfolding(crate::specs::inner::Parts::sender_side_of))]
 fn read_sender_side(
     alloc: Global,
     tables: &RefTables,
@@ -91,7 +91,7 @@ fn read_sender_side(
 }
 
 /// The banks on the beneficiary's side.
-#[tactic(auto, unfolding(crate::specs::Parts::beneficiary_side_of))]
+#[tactic(auto, unfolding(crate::specs::inner::Parts::beneficiary_side_of))]
 fn read_beneficiary_side(
     alloc: Global,
     tables: &RefTables,

@@ -3,7 +3,7 @@
 ghost use Rattle.std.specs.Prelude.{◌≤◌, length};
 ghost use Rattle.fin_fields.specs.Fields.{most_text_lines};
 ghost use Rattle.fin_layout.specs.Reading.{Gives};
-ghost use Rattle.mt202cov.specs.Parts.{customers_of, payee_side_of, payer_side_of};
+ghost use Rattle.mt202cov.specs.inner.Parts.{customers_of, payee_side_of, payer_side_of};
 
 use crate::order::ORDER;
 use crate::places::{B_ACCOUNT_BANK, B_INTERMEDIARY, B_ORDERING, PAYEE, PAYER};
@@ -41,7 +41,7 @@ pub struct PayeeSide {
 }
 
 /// The customers and their banks that fields at the places of sequence B say.
-#[tactic(auto, unfolding(crate::specs::Parts::customers_of))]
+#[tactic(auto, unfolding(crate::specs::inner::Parts::customers_of))]
 pub fn read_customers(
     alloc: Global,
     tables: &RefTables,
@@ -68,7 +68,7 @@ pub fn read_customers(
 }
 
 /// The ordering customer, and the bank before the sender.
-#[tactic(auto, unfolding(crate::specs::Parts::payer_side_of))]
+#[tactic(auto, unfolding(crate::specs::inner::Parts::payer_side_of))]
 fn read_payer_side(
     alloc: Global,
     tables: &RefTables,
@@ -85,7 +85,7 @@ fn read_payer_side(
 }
 
 /// The banks on the way to the beneficiary customer, and that customer.
-#[tactic(auto, unfolding(crate::specs::Parts::payee_side_of))]
+#[tactic(auto, unfolding(crate::specs::inner::Parts::payee_side_of))]
 fn read_payee_side(
     alloc: Global,
     tables: &RefTables,

@@ -3,7 +3,7 @@
 ghost use Rattle.std.specs.Prelude.{◌≤◌, length};
 ghost use Rattle.fin_fields.specs.Fields.{most_text_lines};
 ghost use Rattle.fin_layout.specs.Reading.{Gives};
-ghost use Rattle.mt202cov.specs.Parts.{details_of};
+ghost use Rattle.mt202cov.specs.inner.Parts.{details_of};
 
 use crate::places::{B_NOTES, INFO, ORDERED};
 use corr_money::Amount;
@@ -23,7 +23,7 @@ pub struct Details {
 }
 
 /// The details that fields at the places of sequence B say.
-#[tactic(auto, unfolding(crate::specs::Parts::details_of))]
+#[tactic(auto, unfolding(crate::specs::inner::Parts::details_of))]
 pub fn read_details(
     alloc: Global,
     tables: &RefTables,

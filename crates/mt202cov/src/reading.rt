@@ -3,7 +3,7 @@
 ghost use Rattle.std.specs.Prelude.{◌≡◌, ◌≤◌, length};
 ghost use Rattle.fin_fields.specs.Fields.{most_text_lines};
 ghost use Rattle.fin_layout.specs.Reading.{Gives};
-ghost use Rattle.mt202cov.specs.Parts.{contents_in_parts, cover_of_parts};
+ghost use Rattle.mt202cov.specs.inner.Parts.{contents_in_parts, cover_of_parts};
 
 use crate::message::Mt202Cov;
 use crate::sequences::{SequenceA, SequenceB, read_sequence_a, read_sequence_b};
@@ -42,7 +42,7 @@ fn message(a: SequenceA, b: SequenceB) -> Mt202Cov
 
 /// The cover that fields at these places say. `Bad`: what is wrong with the first of them that is refused, or P23 where one that
 /// must be there is missing before it.
-#[tactic(auto, unfolding(crate::specs::Parts::contents_in_parts))]
+#[tactic(auto, unfolding(crate::specs::inner::Parts::contents_in_parts))]
 pub fn read_contents(
     alloc: Global,
     tables: &RefTables,

@@ -3,7 +3,7 @@
 ghost use Rattle.std.specs.Prelude.{◌≤◌, length};
 ghost use Rattle.fin_fields.specs.Fields.{most_text_lines};
 ghost use Rattle.fin_layout.specs.Reading.{Gives};
-ghost use Rattle.mt202cov.specs.Parts.{sequence_a_of, sequence_b_of};
+ghost use Rattle.mt202cov.specs.inner.Parts.{sequence_a_of, sequence_b_of};
 
 use crate::banks::{Banks, read_banks};
 use crate::customers::{Customers, read_customers};
@@ -33,7 +33,7 @@ pub struct SequenceB {
 }
 
 /// What the fields at the places of sequence A say.
-#[tactic(auto, unfolding(crate::specs::Parts::sequence_a_of))]
+#[tactic(auto, unfolding(crate::specs::inner::Parts::sequence_a_of))]
 pub fn read_sequence_a(
     alloc: Global,
     tables: &RefTables,
@@ -67,7 +67,7 @@ pub fn read_sequence_a(
 }
 
 /// What the fields at the places of sequence B say.
-#[tactic(auto, unfolding(crate::specs::Parts::sequence_b_of))]
+#[tactic(auto, unfolding(crate::specs::inner::Parts::sequence_b_of))]
 pub fn read_sequence_b(
     alloc: Global,
     tables: &RefTables,

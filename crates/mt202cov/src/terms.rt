@@ -3,7 +3,7 @@
 ghost use Rattle.std.specs.Prelude.{◌≤◌, length};
 ghost use Rattle.fin_fields.specs.Fields.{most_text_lines};
 ghost use Rattle.fin_layout.specs.Reading.{Gives};
-ghost use Rattle.mt202cov.specs.Parts.{terms_of};
+ghost use Rattle.mt202cov.specs.inner.Parts.{terms_of};
 
 use crate::order::ORDER;
 use crate::places::{REFERENCE, RELATED, TIMES, VALUE};
@@ -24,7 +24,7 @@ pub struct Terms {
 }
 
 /// The terms that fields at these places say.
-#[tactic(auto, unfolding(crate::specs::Parts::terms_of))]
+#[tactic(auto, unfolding(crate::specs::inner::Parts::terms_of))]
 pub fn read_terms(
     alloc: Global,
     tables: &RefTables,

@@ -8,7 +8,8 @@ ghost use Rattle.fin_fields.specs.Writing.{fields_text};
 ghost use Rattle.fin_fields.specs.declared.field.Field.{Field as FieldSeen};
 ghost use Rattle.fin_layout.specs.Segments.{joined};
 ghost use Rattle.mt202cov.specs.Message.{mt202cov_of};
-ghost use Rattle.mt202cov.specs.Writing.{AreAmounts, bank_fields, mt202cov_fields, sequence_a_fields, sequence_b_fields, terms_fields};
+ghost use Rattle.mt202cov.specs.Writing.{bank_fields, mt202cov_fields, sequence_a_fields, sequence_b_fields, terms_fields};
+ghost use Rattle.mt202cov.specs.inner.Writing.{AreAmounts};
 ghost use Rattle.ref_tables.specs.Seen.{Tables};
 
 use crate::message::Mt202Cov;

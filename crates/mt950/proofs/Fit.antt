@@ -32,7 +32,8 @@ use Rattle.mt950.specs.Entry.{line_of}
 use Rattle.mt950.specs.Order.{order_950}
 use Rattle.mt950.specs.Page.{mt950_of, page_of}
 use Rattle.mt950.specs.Parts.{is_entry_type}
-use Rattle.mt950.specs.Writing.{IsBalance, IsContinued, IsWritableLine, IsPage, balance_amount, balance_field, balance_mark, balance_text, detail_lines, fields_950, balance_letter, line_field_61, line_text, mark_text, number_field, page_text, part_text, segments_950, servicer_text}
+use Rattle.mt950.specs.Writing.{IsBalance, IsWritableLine, balance_amount, balance_field, balance_mark, balance_text, detail_lines, fields_950, balance_letter, line_field_61, line_text, mark_text, number_field, page_text, part_text, segments_950, servicer_text}
+use Rattle.mt950.specs.inner.Writing.{IsContinued, IsPage}
 use Rattle.mt950.specs.declared.balance.Balance.{Balance}
 use Rattle.mt950.specs.declared.entry.Line61.{Line61}
 use Rattle.mt950.specs.declared.entry.Mark.{Mark}

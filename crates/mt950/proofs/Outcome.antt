@@ -5,7 +5,8 @@ use Rattle.corr_text.specs.declared.fault.Fault.{Fault}
 use Rattle.ref_tables.specs.Seen.{Tables}
 use Rattle.fin_fields.specs.declared.field.Field.{Field}
 use Rattle.fin_layout.specs.Order.{places_from}
-use Rattle.fin_layout.specs.Reading.{Fails, Tells}
+use Rattle.fin_layout.specs.Reading.{Tells}
+use Rattle.fin_layout.specs.inner.Reading.{Fails}
 use Rattle.fin_layout.specs.Tests.{passed, structure_tests}
 use Rattle.fin_layout.specs.declared.fault.MtFault.{MtFault}
 use Rattle.fin_layout.specs.declared.fault.MtFault.TheVariants as faults

@@ -27,7 +27,8 @@ use Rattle.mt950.specs.Number.{numbers_of}
 use Rattle.mt950.specs.Order.{order_950}
 use Rattle.mt950.specs.Page.{mt950_of, page_of, said_of, tests_950}
 use Rattle.mt950.specs.Rules.{currency_rules}
-use Rattle.mt950.specs.Writing.{IsBalance, IsWritableLine, IsPage}
+use Rattle.mt950.specs.Writing.{IsBalance, IsWritableLine}
+use Rattle.mt950.specs.inner.Writing.{IsPage}
 use Rattle.mt950.specs.declared.balance.Stated.{Stated}
 use Rattle.mt950.specs.declared.entry.Line61.{Line61}
 use Rattle.mt950.specs.declared.page.Page950.{Page950}

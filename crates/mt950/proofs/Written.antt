@@ -14,7 +14,8 @@ use Rattle.ref_tables.specs.Seen.{Tables}
 use Rattle.fin_fields.specs.declared.field.Field.{Field}
 use Rattle.fin_fields.specs.Patterns.{is_run}
 use Rattle.fin_layout.specs.Order.{fits, missing_from}
-use Rattle.fin_layout.specs.Segments.{IsFirst, Segments, joined, places_of}
+use Rattle.fin_layout.specs.Segments.{joined}
+use Rattle.fin_layout.specs.inner.Segments.{IsFirst, Segments, places_of}
 use Rattle.fin_layout.proofs.laws.PlaceByPlace.{Placed, ◌▸◌, no-more}
 use Rattle.fin_layout.proofs.laws.FoundField.{grouped-taken}
 use Rattle.fin_layout.proofs.laws.Grouped.{grouped-places, grouped-structure}
@@ -28,7 +29,8 @@ use Rattle.mt950.specs.Entry.{line_of}
 use Rattle.mt950.specs.Order.{order_950}
 use Rattle.mt950.specs.Page.{mt950_of, page_of}
 use Rattle.mt950.specs.Rules.{same_two_letters, c27, currency_rules, is_same, of_available, other_available, other_closing}
-use Rattle.mt950.specs.Writing.{IsBalance, IsWritableLine, IsPage, balance_field, balance_text, fields_950, balance_letter, line_field_61, number_field, segments_950}
+use Rattle.mt950.specs.Writing.{IsBalance, IsWritableLine, balance_field, balance_text, fields_950, balance_letter, line_field_61, number_field, segments_950}
+use Rattle.mt950.specs.inner.Writing.{IsPage}
 use Rattle.mt950.specs.declared.balance.Balance.{Balance}
 use Rattle.mt950.specs.declared.balance.Stated.{Stated}
 use Rattle.mt950.specs.declared.entry.Line61.{Line61}

@@ -1,5 +1,5 @@
 -- The pages of a statement joined: the statement that they are, or the first test that fails.
-use Rattle.std.specs.Prelude.{◌≡◌, ℕ, ◌<◌, ◌≤◌, ◌+◌, ◌-◌, ◌^◌, ◌==◌, ◌&&◌, Bool, true, false, List, [], ◌∷◌, length, Option, Some, None, option_map, Result, Ok, Err, ℤ, pos, neg_ℤ, ◌+ℤ◌, ◌≤ℤ◌, int_le, unwrap_or, unsigned_abs, All, if◌then◌else◌}
+use Rattle.std.specs.Prelude.{◌≡◌, ℕ, ◌<◌, ◌≤◌, ◌+◌, ◌-◌, ◌^◌, ◌==◌, ◌&&◌, Bool, true, false, List, [], ◌∷◌, length, Option, Some, None, option_map, Result, Ok, Err, ℤ, pos, neg_ℤ, ◌+ℤ◌, int_le, unwrap_or, unsigned_abs, All, if◌then◌else◌}
 use Rattle.std.specs.Ordering.{int_eq}
 use Rattle.std.specs.List.{flat_map}
 use Rattle.std.specs.Str.{bytes_eq}
@@ -74,10 +74,6 @@ sum_test opening lines closing = check (int_eq (opening +ℤ effects_of lines) c
 -- a line whose amount is below the end of amounts
 abbrev pub IsSmallLine : Line61 → Type 0
 IsSmallLine line = line.amount.0 < amount_end
-
--- what the lines of a list can add: there are fewer than 2^64, each below 10^14
-abbrev pub IsSum : ℤ → Type 0
-IsSum n = (neg_ℤ (pos (2 ^ 112)) ≤ℤ n) × (n ≤ℤ pos (2 ^ 112))
 
 -- the last page, given the one before
 abbrev pub last_of : Page950 → List Page950 → Page950

@@ -7,3 +7,4 @@ pub mod Page
 pub mod Writing
 pub mod Joining
 pub mod Order
+pub mod inner

@@ -1,19 +1,17 @@
 -- A page of a statement written as fields.
-use Rattle.std.specs.Prelude.{◌≡◌, ℕ, ℤ, ◌<◌, ◌≤◌, Bool, true, false, List, [], ◌∷◌, ◌++◌, length, map, All, IsTrue, Option, Some, None, IfSome, unsigned_abs, codes, if◌then◌else◌}
+use Rattle.std.specs.Prelude.{◌≡◌, ℕ, ℤ, ◌<◌, ◌≤◌, Bool, true, List, [], ◌∷◌, ◌++◌, length, map, IsTrue, Option, Some, None, IfSome, unsigned_abs, codes, if◌then◌else◌}
 use Rattle.std.specs.Char.{is_ascii_uppercase}
 use Rattle.std.specs.Fmt.{decimal}
 use Rattle.std.specs.Int.{is_negative}
 use Rattle.std.specs.List.{list_all}
 use Rattle.corr_text.specs.Sets.{is_in}
-use Rattle.corr_text.specs.Slashes.{has_stray_slash}
-use Rattle.corr_text.specs.declared.set.Set.TheVariants.{A, N, X}
+use Rattle.corr_text.specs.declared.set.Set.TheVariants.{N, X}
 use Rattle.corr_ids.specs.Day.{InCentury, yymmdd_of}
 use Rattle.corr_money.specs.Amounts.{amount_end, amount_text, most_decimals}
 use Rattle.corr_money.specs.declared.amount.Amount.{Amount}
 use Rattle.corr_money.specs.declared.amount.Ccy.{Ccy}
-use Rattle.ref_tables.specs.Seen.{Tables, decimals_in}
 use Rattle.fin_fields.specs.Patterns.{is_run}
-use Rattle.fin_fields.specs.Writing.{Continues, letter_text}
+use Rattle.fin_fields.specs.Writing.{letter_text}
 use Rattle.fin_fields.specs.declared.field.Field.{Field}
 use Rattle.fin_layout.specs.Segments.{joined}
 use Rattle.fin_contents.specs.Writing.{ccy_amount_text, line_field, lines_field, some_field}
@@ -127,23 +125,3 @@ pub record IsWritableLine (decimals : ℕ) (line : Line61) : Type 0 where
   pub ended : IsEnded line.reference line.servicer
   pub servicer : IfSome line.servicer (λ text. IsTrue (is_run (is_in X) 16 text))
   pub detail : IfSome line.detail (λ text. IsTrue (is_run (is_in X) 34 text))
-
--- a line whose further line may continue a field of a text
-abbrev pub IsContinued : Line61 → Type 0
-IsContinued line = IfSome line.detail Continues
-
--- a page that can be written and is read under tables which hold its currency with its decimals. A 64 has no letter, so it is
--- never the last
-pub record IsPage (t : Tables) (p : Page950) : Type 0 where
-  pub reference : IsTrue (is_run (is_in X) 16 p.reference)
-  pub slashes : has_stray_slash p.reference ≡ false
-  pub account : IsTrue (is_run (is_in X) 35 p.account)
-  pub number : p.number < 100000
-  pub page : IfSome p.page (λ page. page < 100000)
-  pub three : length p.ccy.0 ≡ 3
-  pub capitals : IsTrue (list_all (is_in A) p.ccy.0)
-  pub known : decimals_in t p.ccy.0 ≡ Some p.decimals
-  pub opening : IsBalance p.decimals p.opening
-  pub lines : All (IsWritableLine p.decimals) p.lines
-  pub closing : IsBalance p.decimals p.closing
-  pub available : IfSome p.available (λ b. IsBalance p.decimals b × (b.last ≡ false))

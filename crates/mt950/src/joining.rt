@@ -4,7 +4,8 @@ ghost use Rattle.std.specs.Prelude.{◌≡◌, ◌≤◌, ◌++◌, ◌+ℤ◌, 
 ghost use Rattle.std.specs.Ordering.{int_eq};
 ghost use Rattle.corr_text.specs.First.{unless_fault};
 ghost use Rattle.fin_contents.specs.Writing.{IsReadable};
-ghost use Rattle.mt950.specs.Joining.{IsSmallLine, IsAddable, IsSum, Joins, effects_of, first_gap, first_uncarried, follows, held, is_same_statement, joined_of, joined_with, lines_of_pages, most_pages, sum_test};
+ghost use Rattle.mt950.specs.Joining.{IsSmallLine, IsAddable, Joins, effects_of, first_gap, first_uncarried, follows, held, is_same_statement, joined_of, joined_with, lines_of_pages, most_pages, sum_test};
+ghost use Rattle.mt950.specs.inner.Joining.{IsSum};
 ghost use Rattle.mt950.specs.Page.{mt950_of};
 ghost use Rattle.mt950.specs.declared.joining.PageFault.TheVariants.{Gap};
 

@@ -5,7 +5,8 @@ use Rattle.ref_tables.specs.Seen.{Tables}
 use Rattle.fin_fields.specs.declared.field.Field.{Field}
 use Rattle.fin_layout.specs.declared.place.Place.{Place}
 use Rattle.fin_layout.specs.Contents.{in_option, in_place}
-use Rattle.fin_layout.specs.Segments.{joined, places_of}
+use Rattle.fin_layout.specs.Segments.{joined}
+use Rattle.fin_layout.specs.inner.Segments.{places_of}
 use Rattle.fin_parties.specs.Writing.{party_field}
 use Rattle.fin_parties.specs.declared.party.Party.{Party}
 use Rattle.fin_contents.specs.Money.{value_of}
@@ -18,7 +19,7 @@ use Rattle.fin_contents.proofs.laws.Placed.{party-again-at}
 use Rattle.fin_contents.proofs.laws.Said.{HoldsInPlaces, Stands}
 use Rattle.fin_contents.proofs.laws.Steps.{checked, is-only, read-then, there}
 use Rattle.mt9_advice.specs.Advice.{contents_900, contents_910, is_stamp, stamp_of}
-use Rattle.mt9_advice.specs.Parts.{booking_of, ending_of, mt900, mt910, orderers_of, parts_900, parts_910}
+use Rattle.mt9_advice.specs.inner.Parts.{booking_of, ending_of, mt900, mt910, orderers_of, parts_900, parts_910}
 use Rattle.mt9_advice.specs.Writing.{booking_fields, segments_900, segments_910}
 use Rattle.mt9_advice.specs.declared.booking.Booking.{Booking}
 use Rattle.mt9_advice.specs.declared.credit.Ending.{Ending}

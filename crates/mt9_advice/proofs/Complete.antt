@@ -11,7 +11,7 @@ use Rattle.fin_contents.specs.Money.{value_of}
 use Rattle.fin_contents.specs.Parties.{known_party_of}
 use Rattle.fin_contents.specs.Plain.{reference_of, short_line_of, texts_of}
 use Rattle.mt9_advice.specs.Advice.{content_test, contents_900, contents_910, stamp_of, tests_900, tests_910}
-use Rattle.mt9_advice.specs.Parts.{mt900, mt910}
+use Rattle.mt9_advice.specs.inner.Parts.{mt900, mt910}
 use Rattle.mt9_advice.specs.declared.booking.Booking.{Booking}
 use Rattle.mt9_advice.specs.declared.credit.Mt910.{Mt910}
 use Rattle.mt9_advice.specs.declared.debit.Mt900.{Mt900}

@@ -5,13 +5,14 @@ use Rattle.corr_text.specs.declared.fault.Fault.{Fault}
 use Rattle.ref_tables.specs.Seen.{Tables}
 use Rattle.fin_fields.specs.declared.field.Field.{Field}
 use Rattle.fin_layout.specs.Order.{places_from}
-use Rattle.fin_layout.specs.Reading.{Fails, Gives, Tells}
+use Rattle.fin_layout.specs.Reading.{Gives, Tells}
+use Rattle.fin_layout.specs.inner.Reading.{Fails}
 use Rattle.fin_layout.specs.Tests.{passed, structure_tests}
 use Rattle.fin_layout.specs.declared.fault.MtFault.{MtFault}
 use Rattle.fin_layout.specs.declared.fault.MtFault.TheVariants as faults
 use Rattle.fin_layout.proofs.laws.InOrder.{fails-before, in-turn, structure-fails}
 use Rattle.mt9_advice.specs.Advice.{c06, content_test, contents_900, contents_910, mt900_of, mt910_of}
-use Rattle.mt9_advice.specs.Parts.{parts_900, parts_910}
+use Rattle.mt9_advice.specs.inner.Parts.{parts_900, parts_910}
 use Rattle.mt9_advice.specs.declared.credit.Mt910.{Mt910}
 use Rattle.mt9_advice.specs.declared.debit.Mt900.{Mt900}
 use Rattle.mt9_advice.specs.Order.{order_900, order_910}

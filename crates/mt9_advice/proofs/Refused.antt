@@ -10,7 +10,7 @@ use Rattle.fin_contents.specs.Money.{value_of}
 use Rattle.fin_contents.specs.Parties.{known_party_of}
 use Rattle.fin_contents.specs.Plain.{reference_of, short_line_of, texts_of}
 use Rattle.mt9_advice.specs.Advice.{content_test, contents_900, contents_910, stamp_of}
-use Rattle.mt9_advice.specs.Parts.{booking_of, ending_of, orderers_of, parts_900, parts_910}
+use Rattle.mt9_advice.specs.inner.Parts.{booking_of, ending_of, orderers_of, parts_900, parts_910}
 use Rattle.mt9_advice.specs.declared.booking.Booking.{Booking}
 use Rattle.mt9_advice.specs.declared.credit.Ending.{Ending}
 use Rattle.mt9_advice.specs.declared.credit.Orderers.{Orderers}

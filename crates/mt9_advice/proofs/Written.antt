@@ -12,7 +12,8 @@ use Rattle.fin_fields.specs.Writing.{IsField, fields_text}
 use Rattle.fin_layout.specs.declared.place.Place.{Place}
 use Rattle.fin_layout.specs.Contents.{in_option}
 use Rattle.fin_layout.specs.Order.{fits, missing_from, places_from}
-use Rattle.fin_layout.specs.Segments.{IsFirst, Segment, Segments, joined, places_of}
+use Rattle.fin_layout.specs.Segments.{joined}
+use Rattle.fin_layout.specs.inner.Segments.{IsFirst, Segment, Segments, places_of}
 use Rattle.fin_layout.specs.Tests.{passed}
 use Rattle.fin_layout.proofs.laws.FoundField.{grouped-taken}
 use Rattle.fin_layout.proofs.laws.Passed.{passed-none}

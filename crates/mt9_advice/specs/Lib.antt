@@ -1,4 +1,4 @@
 pub mod Advice
-pub mod Parts
 pub mod Writing
 pub mod Order
+pub mod inner

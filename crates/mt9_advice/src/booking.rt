@@ -3,7 +3,7 @@
 ghost use Rattle.std.specs.Prelude.{◌≤◌, length};
 ghost use Rattle.fin_fields.specs.Fields.{most_text_lines};
 ghost use Rattle.fin_layout.specs.Reading.{Gives};
-ghost use Rattle.mt9_advice.specs.Parts.{booking_of};
+ghost use Rattle.mt9_advice.specs.inner.Parts.{booking_of};
 
 use crate::places::{ACCOUNT, REFERENCE, RELATED, STAMP, VALUE};
 use crate::stamp::Stamp;
@@ -26,7 +26,7 @@ pub struct Booking {
 
 /// The entry that the fields at the first five places of an order say. `Bad`: what is wrong with the first of them that is
 /// refused, or P23 where one that must be there is missing before it.
-#[tactic(auto, unfolding(crate::specs::Parts::booking_of))]
+#[tactic(auto, unfolding(crate::specs::inner::Parts::booking_of))]
 pub fn read_booking(
     alloc: Global,
     order: &[Place],

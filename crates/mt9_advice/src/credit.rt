@@ -9,7 +9,7 @@ ghost use Rattle.fin_fields.specs.Writing.{IsField};
 ghost use Rattle.fin_layout.specs.Order.{places_from};
 ghost use Rattle.fin_layout.specs.Reading.{Gives};
 ghost use Rattle.mt9_advice.specs.Advice.{c06, contents_910, mt910_of, tests_910};
-ghost use Rattle.mt9_advice.specs.Parts.{booking_of, ending_of, mt910, orderers_of, parts_910};
+ghost use Rattle.mt9_advice.specs.inner.Parts.{booking_of, ending_of, mt910, orderers_of, parts_910};
 ghost use Rattle.mt9_advice.specs.declared.credit.Mt910.{Mt910 as Mt910Seen};
 ghost use Rattle.mt9_advice.specs.Order.{order_910};
 ghost use Rattle.ref_tables.specs.Seen.{few_decimals};
@@ -100,7 +100,7 @@ fn read_credit(
 }
 
 /// Who ordered the credit.
-#[tactic(auto, unfolding(crate::specs::Parts::orderers_of))]
+#[tactic(auto, unfolding(crate::specs::inner::Parts::orderers_of))]
 fn read_orderers(
     alloc: Global,
     tables: &RefTables,
@@ -116,7 +116,7 @@ fn read_orderers(
 }
 
 /// What follows them.
-#[tactic(auto, unfolding(crate::specs::Parts::ending_of))]
+#[tactic(auto, unfolding(crate::specs::inner::Parts::ending_of))]
 fn read_ending(
     alloc: Global,
     tables: &RefTables,
@@ -134,7 +134,7 @@ fn read_ending(
     })
 }
 
-#[tactic(auto, unfolding(crate::specs::Parts::parts_910))]
+#[tactic(auto, unfolding(crate::specs::inner::Parts::parts_910))]
 fn read_contents(
     alloc: Global,
     tables: &RefTables,

@@ -9,7 +9,7 @@ ghost use Rattle.fin_fields.specs.Writing.{IsField};
 ghost use Rattle.fin_layout.specs.Order.{places_from};
 ghost use Rattle.fin_layout.specs.Reading.{Gives};
 ghost use Rattle.mt9_advice.specs.Advice.{contents_900, mt900_of, tests_900};
-ghost use Rattle.mt9_advice.specs.Parts.{mt900, parts_900};
+ghost use Rattle.mt9_advice.specs.inner.Parts.{mt900, parts_900};
 ghost use Rattle.mt9_advice.specs.declared.debit.Mt900.{Mt900 as Mt900Seen};
 ghost use Rattle.mt9_advice.specs.Order.{order_900};
 ghost use Rattle.ref_tables.specs.Seen.{few_decimals};
@@ -63,7 +63,7 @@ fn message(booking: Booking, p52: Option<Party>, notes: List<Text>) -> Mt900
     }
 }
 
-#[tactic(auto, unfolding(crate::specs::Parts::parts_900))]
+#[tactic(auto, unfolding(crate::specs::inner::Parts::parts_900))]
 fn read_contents(
     alloc: Global,
     tables: &RefTables,

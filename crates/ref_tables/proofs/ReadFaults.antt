@@ -5,7 +5,7 @@ use Rattle.csv.specs.Reading.{ExplainsRead, is_flexible}
 use Rattle.csv.specs.declared.reader.Reader.{Reader}
 use Rattle.csv.specs.declared.error.ErrorKind.{ErrorKind}
 use Rattle.csv.specs.declared.error.ErrorKind.TheVariants as kind
-use Rattle.ref_tables.specs.Rows.{IsReadFault}
+use Rattle.ref_tables.specs.inner.Rows.{IsReadFault}
 
 pub is-read-fault : {R : Type 0} (rem : R → Option (List ℕ)) (old new : Reader R) (k : ErrorKind) → is_flexible old ≡ true → ExplainsRead rem old new false k → IsReadFault k
 is-read-fault rem old new (kind.Io e) flexible why = tt

@@ -6,3 +6,4 @@ pub mod Tables
 pub mod Charges
 pub mod Accounts
 pub mod AccountList
+pub mod inner

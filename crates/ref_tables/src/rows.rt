@@ -2,7 +2,8 @@
 
 ghost use Rattle.std.specs.Prelude.{◌≡◌, IfOk, option_map, map};
 ghost use Rattle.csv.specs.Records.{fields_of};
-ghost use Rattle.ref_tables.specs.Rows.{IsReadFault, cell as cell_of, rows_of, rows_within, up_to};
+ghost use Rattle.ref_tables.specs.Rows.{cell as cell_of, rows_of, rows_within, up_to};
+ghost use Rattle.ref_tables.specs.inner.Rows.{IsReadFault};
 
 use corr_text::Memory;
 use csv::{ByteRecord, ErrorKind, ReaderBuilder};

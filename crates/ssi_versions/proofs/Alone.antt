@@ -9,7 +9,8 @@ use Rattle.std.specs.Str.{bytes_eq}
 use Rattle.std.proofs.lemmas.Option.{get_or_from_slice_get, slice_get_within}
 use Rattle.std.proofs.lemmas.Slice.Eq.{bytes_eq-Decides}
 use Rattle.ssi_versions.specs.declared.row.SsiRow.{SsiRow}
-use Rattle.ssi_versions.specs.Index.{HasSpan, IsInDayOrder, IsTable, NotesPlace, has_bank_key, has_begun, holds_at, key_by_bank, places_under, places_where}
+use Rattle.ssi_versions.specs.Index.{HasSpan, IsInDayOrder, IsTable, has_bank_key, key_by_bank, places_under, places_where}
+use Rattle.ssi_versions.specs.inner.Index.{NotesPlace, has_begun, holds_at}
 use Rattle.ssi_versions.specs.InstructionList.{IsInForm}
 use Rattle.ssi_versions.specs.Rows.{overlaps, shares_a_day}
 use Rattle.ssi_versions.proofs.Entering.{order-kept, order-more}

@@ -17,7 +17,8 @@ use Rattle.std.proofs.lemmas.List.Edits.{get_or-insert_above, get_or-insert_at, 
 use Rattle.corr_ids.specs.declared.day.Day.{Day}
 use Rattle.corr_money.specs.declared.amount.Ccy.{Ccy}
 use Rattle.ssi_versions.specs.declared.row.SsiRow.{SsiRow}
-use Rattle.ssi_versions.specs.Index.{HasSpan, IsInDayOrder, has_bank_key, has_begun, holds_at, key_by_bank, places_where, row_by}
+use Rattle.ssi_versions.specs.Index.{HasSpan, IsInDayOrder, has_bank_key, key_by_bank, places_where, row_by}
+use Rattle.ssi_versions.specs.inner.Index.{has_begun, holds_at}
 use Rattle.ssi_versions.specs.Instruction.{is_asked, is_in_force, naming}
 use Rattle.ssi_versions.specs.Rows.{overlaps, shares_a_day}
 use Rattle.ssi_versions.proofs.Order.{At, at, find-none, holds}

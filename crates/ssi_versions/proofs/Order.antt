@@ -13,7 +13,8 @@ use Rattle.std.proofs.lemmas.Option.{slice_get-get_or, slice_get_cases, slice_ge
 use Rattle.corr_ids.specs.declared.day.Day.{Day}
 use Rattle.corr_money.specs.declared.amount.Ccy.{Ccy}
 use Rattle.ssi_versions.specs.declared.row.SsiRow.{SsiRow}
-use Rattle.ssi_versions.specs.Index.{HasSpan, IsInDayOrder, has_begun, holds_at, row_by}
+use Rattle.ssi_versions.specs.Index.{HasSpan, IsInDayOrder, row_by}
+use Rattle.ssi_versions.specs.inner.Index.{has_begun, holds_at}
 use Rattle.ssi_versions.specs.Instruction.{is_asked}
 use Rattle.ssi_versions.specs.Rows.{shares_a_day}
 

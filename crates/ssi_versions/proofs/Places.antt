@@ -16,7 +16,8 @@ use Rattle.std.proofs.lemmas.Slice.Eq.{bytes_eq-Decides}
 use Rattle.corr_ids.specs.declared.day.Day.{Day}
 use Rattle.corr_money.specs.declared.amount.Ccy.{Ccy}
 use Rattle.ssi_versions.specs.declared.row.SsiRow.{SsiRow}
-use Rattle.ssi_versions.specs.Index.{IsInDayOrder, IsPlaceIndexOf, NotesPlace, has_bank_key, holds_at, key_by_bank, places_under, places_where}
+use Rattle.ssi_versions.specs.Index.{IsInDayOrder, IsPlaceIndexOf, has_bank_key, key_by_bank, places_under, places_where}
+use Rattle.ssi_versions.specs.inner.Index.{NotesPlace, holds_at}
 use Rattle.ssi_versions.specs.Instruction.{is_asked, is_in_force, naming}
 use Rattle.ssi_versions.specs.Rows.{overlaps, shares_a_day}
 

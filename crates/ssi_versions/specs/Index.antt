@@ -1,12 +1,10 @@
 -- The rows of the table by currency and bank: where a bank's rows stand, without a look at the others.
-use Rattle.std.specs.Prelude.{◌≡◌, ◌<◌, ◌<ℤ◌, ◌≤ℤ◌, All, ℕ, ◌+◌, ◌==◌, Bool, false, List, [], ◌∷◌, ◌++◌, Option, Some, length, take, drop, replicate, int_le, nat_lt, slice_get, if◌then◌else◌}
+use Rattle.std.specs.Prelude.{◌≡◌, ◌<◌, ◌<ℤ◌, ◌≤ℤ◌, All, ℕ, ◌+◌, ◌==◌, Bool, List, [], ◌∷◌, ◌++◌, Option, Some, length, take, drop, replicate, nat_lt, slice_get, if◌then◌else◌}
 use Rattle.std.specs.Global.{Vec}
-use Rattle.std.specs.List.{insert}
 use Rattle.std.specs.List.Sorted.{IsPermutation}
 use Rattle.std.specs.Map.{lookup}
 use Rattle.std.specs.Option.{option_and_then, option_map_or}
 use Rattle.std.specs.Str.{bytes_eq}
-use Rattle.corr_ids.specs.declared.day.Day.{Day}
 use Rattle.ssi_versions.specs.declared.row.SsiRow.{SsiRow}
 use Rattle.ssi_versions.specs.InstructionList.{IsInForm}
 
@@ -35,17 +33,9 @@ unfoldable pub places_where : {A : Type 0} → (A → Bool) → ℕ → List A �
 places_where test at [] = []
 places_where test at (x ∷ xs) = if test x then at ∷ places_where test (at + 1) xs else places_where test (at + 1) xs
 
--- there is an item at this place, and it passes
-abbrev pub holds_at : {A : Type 0} → (A → Bool) → List A → ℕ → Bool
-holds_at test xs i = option_map_or test (slice_get xs i) false
-
 -- the places that are noted for a key
 abbrev pub places_under : List (List ℕ × Vec ℕ) → List ℕ → List ℕ
 places_under groups key = option_map_or (λ places. places.items) (lookup (bytes_eq key) groups) []
-
--- one more place is noted for this key, before the one that stands at `at`
-abbrev pub NotesPlace : List (List ℕ × Vec ℕ) → List (List ℕ × Vec ℕ) → List ℕ → ℕ → ℕ → Type 0
-NotesPlace old new key at place = (other : List ℕ) → places_under new other ≡ (if bytes_eq key other then insert (places_under old key) at place else places_under old other)
 
 -- for each key the places of its rows are noted, each once
 abbrev pub IsPlaceIndexOf : List SsiRow → List (List ℕ × Vec ℕ) → Type 0
@@ -54,10 +44,6 @@ IsPlaceIndexOf rows groups = (key : List ℕ) → IsPermutation (places_where (h
 -- the row is in force on a day: it ends after its first day
 abbrev pub HasSpan : SsiRow → Type 0
 HasSpan r = r.from.0 <ℤ r.until.0
-
--- the row begins on this day or before
-abbrev pub has_begun : Day → SsiRow → Bool
-has_begun day r = int_le r.from.0 day.0
 
 -- the row at the place that stands at i
 abbrev pub row_by : List SsiRow → List ℕ → ℕ → Option SsiRow

@@ -4,7 +4,8 @@ ghost use Rattle.std.specs.Prelude.{◌≡◌, ◌≤◌, ◌++◌, OnOk, false,
 ghost use Rattle.std.specs.List.{list_any};
 ghost use Rattle.std.specs.List.Sorted.{IsPartitionPoint};
 ghost use Rattle.std.specs.Option.{option_and_then, option_copied, option_map_or};
-ghost use Rattle.ssi_versions.specs.Index.{IsInDayOrder, NotesPlace, has_begun, head_of, holds_at, key_by_bank, places_under, tail_of};
+ghost use Rattle.ssi_versions.specs.Index.{IsInDayOrder, head_of, key_by_bank, places_under, tail_of};
+ghost use Rattle.ssi_versions.specs.inner.Index.{NotesPlace, has_begun, holds_at};
 ghost use Rattle.ssi_versions.specs.Rows.{overlaps, shares_a_day};
 ghost use Rattle.ssi_versions.specs.Instruction.{is_asked, is_in_force};
 

@@ -22,10 +22,12 @@ use Rattle.jrn_book.proofs.laws.Items.{head_with, item_records_with}
 use Rattle.standby.specs.declared.place.Place.{Place}
 use Rattle.standby.specs.declared.place.Place.TheVariants.{Bare, Journal}
 use Rattle.standby.specs.Following.{IsKept, disk_in, held_in}
-use Rattle.standby.specs.Held.{ComesNext, Held, IsBeforeOrWith, IsOnDisk, MayComeNext, StandsForHeld, journal, nothing}
+use Rattle.standby.specs.Held.{ComesNext, Held, IsOnDisk, MayComeNext, StandsForHeld, journal, nothing}
+use Rattle.standby.specs.inner.Held.{IsBeforeOrWith}
 use Rattle.standby.specs.declared.answer.TakeFault.{TakeFault}
 use Rattle.standby.specs.declared.answer.TakeFault.TheVariants.{NotAPacket, NotNext, Full, DiskFault, Broken, Memory}
-use Rattle.standby.specs.Taking.{broken_after, fault_of, is_disk_fault}
+use Rattle.standby.specs.Taking.{broken_after, is_disk_fault}
+use Rattle.standby.specs.inner.Taking.{fault_of}
 use Rattle.standby.proofs.laws.Next.{no_items}
 
 module _ {D : Type 0} (honest : D → Bool) (reads : D → List ℕ) (may_leave : D → List ℕ → Type 0) where

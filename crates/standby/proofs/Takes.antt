@@ -27,7 +27,8 @@ use Rattle.standby.specs.declared.answer.TakeFault.TheVariants.{NotAPacket, NotN
 use Rattle.standby.specs.Following.{Counts}
 use Rattle.standby.specs.Held.{ComesNext, Held, IsHeld, MayComeNext, count_of, journal, nothing, records_of}
 use Rattle.standby.specs.Packets.{IsPacket}
-use Rattle.standby.specs.Taking.{AddShows, HasRoom, RefusesRecord, Ships, TakeShows, broken_after, fault_of, leaves_all}
+use Rattle.standby.specs.Taking.{AddShows, HasRoom, Ships, TakeShows, broken_after, leaves_all}
+use Rattle.standby.specs.inner.Taking.{RefusesRecord, fault_of}
 use Rattle.standby.proofs.laws.Next.{records_next}
 use Rattle.standby.proofs.laws.Shipped.{taken_next, taken_other}
 

@@ -1,5 +1,5 @@
 -- A follower, and what it begins with.
-use Rattle.std.specs.Prelude.{◌≡◌, ℕ, ◌<◌, ◌≤◌, Bool, false, true, List, [], ◌∷◌, length, take, Option, None, Some, Result, Ok, Err}
+use Rattle.std.specs.Prelude.{◌≡◌, ℕ, Bool, false, true, List, Option, Some, Result, Ok, Err}
 use Rattle.corr_text.specs.Faults.{Rose}
 use Rattle.jrn_file.specs.declared.fault.OpenFault.{OpenFault}
 use Rattle.jrn_file.specs.File.{IsSettled, disk_of}
@@ -29,11 +29,6 @@ abbrev pub disk_in : {D : Type 0} → Place D → D
 disk_in (Bare disk) = disk
 disk_in (Journal past file) = disk_of file
 
--- nothing is held there
-abbrev pub IsBare : {D : Type 0} → Place D → Type 0
-IsBare (Bare disk) = Unit {0}
-IsBare (Journal past file) = ⊥
-
 -- the count of faults of a follower's disk: that of its beginning, and one more where it failed
 abbrev pub Counts : Bool → ℕ → ℕ → Type 0
 Counts false at_open now = now ≡ at_open
@@ -51,11 +46,6 @@ module _ {D : Type 0} (honest : D → Bool) (reads : D → List ℕ) (may_leave 
     pub good : IsHeld (held_in place)
     pub kept : broken ≡ false → IsKept place
     pub counts : Counts broken at_open (faults (disk_in place))
-
--- of bytes of which there is more than one, the first
-abbrev pub TellsFront : Option ℕ → List ℕ → Type 0
-TellsFront None bytes = length bytes ≤ 1
-TellsFront (Some first) bytes = (1 < length bytes) × (take 1 bytes ≡ first ∷ [])
 
 -- what bytes are to a follower: nothing yet, where a journal may be made on them, or else the journal of accounts and a history
 abbrev pub BeginsAs : List ℕ → Held → Type 0

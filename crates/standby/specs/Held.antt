@@ -1,5 +1,5 @@
 -- The records that a follower holds.
-use Rattle.std.specs.Prelude.{◌≡◌, ◌⊎◌, ℕ, Bool, IsTrue, List, [], ◌∷◌, ◌++◌, length}
+use Rattle.std.specs.Prelude.{◌≡◌, ℕ, Bool, IsTrue, List, [], ◌∷◌, length}
 use Rattle.corr_disk.specs.Disk.{Only}
 use Rattle.day_model.specs.declared.change.Item.{Item}
 use Rattle.day_model.specs.declared.entry.Entry.{Entry}
@@ -56,10 +56,6 @@ ComesNext (journal chart history) r (journal new more) =
 -- the record may stand next
 abbrev pub MayComeNext : Held → List ℕ → Type 0
 MayComeNext held r = (next : Held) × ComesNext held r next
-
--- the bytes stand for what is held, or for it with this record, which may stand next
-abbrev pub IsBeforeOrWith : Held → List ℕ → List ℕ → Type 0
-IsBeforeOrWith held r image = StandsForHeld held image ⊎ (MayComeNext held r × StandsForAll (records_of held ++ r ∷ []) image)
 
 -- what is held is on the disk, and a crash leaves nothing else
 pub record IsOnDisk {D : Type 0} (honest : D → Bool) (reads : D → List ℕ) (may_leave : D → List ℕ → Type 0) (disk : D) (held : Held) : Type 0 where

@@ -4,3 +4,4 @@ pub mod Worlds
 pub mod Held
 pub mod Following
 pub mod Taking
+pub mod inner

@@ -26,8 +26,3 @@ IsSentBy leader packet = nth leader packet.number ≡ Some packet.body
 -- each packet is
 abbrev pub AreSentBy : List (List ℕ) → List Packet → Type 0
 AreSentBy leader packets = All (IsSentBy leader) packets
-
--- whoever holds a front of a leader's records holds a front of them after packets of that leader, and all that it held
-abbrev pub ShippedIsFront : Type 0
-ShippedIsFront = (leader held : List (List ℕ)) (packets : List Packet) → IsFrontOf held leader → AreSentBy leader packets →
-    IsFrontOf (shipped held packets) leader × IsFrontOf held (shipped held packets)

@@ -3,8 +3,6 @@ use Rattle.std.specs.Prelude.{◌≡◌, ◌≢◌, ◌⊎◌, ℕ, ◌+◌, ◌
 use Rattle.corr_text.specs.Faults.{Rose}
 use Rattle.corr_disk.specs.Disk.{most_disk_bytes}
 use Rattle.jrn_file.specs.Faults.{TellsCounts}
-use Rattle.jrn_file.specs.declared.fault.MakeFault.{MakeFault}
-use Rattle.jrn_file.specs.declared.fault.MakeFault.TheVariants as making
 use Rattle.jrn_book.specs.Journal.{file_of}
 use Rattle.standby.specs.declared.answer.Took.{Took}
 use Rattle.standby.specs.declared.answer.Took.TheVariants.{Added, Skipped}
@@ -37,15 +35,6 @@ AddShows held number r old new after (Err (DiskFault from to)) =
 AddShows held number r old new after (Err (Broken from now)) = ⊥
 AddShows held number r old new after (Err Memory) = (new ≡ old) × (after ≡ held)
 
--- why a record was refused before anything was written: it may not stand next; out of memory tells nothing
-abbrev pub RefusesRecord : Held → ℕ → List ℕ → TakeFault → Type 0
-RefusesRecord held number r NotAPacket = ⊥
-RefusesRecord held number r (NotNext n) = (n ≡ number) × (MayComeNext held r → ⊥)
-RefusesRecord held number r (Full end need) = ⊥
-RefusesRecord held number r (DiskFault from to) = ⊥
-RefusesRecord held number r (Broken from now) = ⊥
-RefusesRecord held number r Memory = Unit {0}
-
 -- What the answer to a packet tells, of a follower whose disk failed before or not. Each case says that those before it in the order
 -- don't hold: the disk failed before, the bytes aren't one packet, its number isn't the next one, and then as above.
 abbrev pub TakeShows : Held → Bool → ℕ → ℕ → ℕ → List ℕ → Held → Result Took TakeFault → Type 0
@@ -64,13 +53,6 @@ TakeShows held broken at_open old new packet after (Err (Full end need)) =
 TakeShows held broken at_open old new packet after (Err (DiskFault from to)) =
     (broken ≡ false) × (r : List ℕ) × IsPacket packet (count_of held + 1) r × AddShows held (count_of held + 1) r old new after (Err (DiskFault from to))
 TakeShows held broken at_open old new packet after (Err Memory) = (broken ≡ false) × (new ≡ old) × (after ≡ held)
-
--- the fault that it is to a follower that a journal wasn't made; none was there before
-abbrev pub fault_of : MakeFault → TakeFault
-fault_of (making.Exists first) = Memory
-fault_of (making.Full end need) = Memory
-fault_of (making.DiskFault before after) = DiskFault before after
-fault_of making.Memory = Memory
 
 -- the disk failed
 abbrev pub is_disk_fault : TakeFault → Bool

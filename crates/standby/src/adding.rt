@@ -12,8 +12,10 @@ ghost use Rattle.jrn_book.specs.Journal.{IsJournal, item_records};
 ghost use Rattle.jrn_book.specs.Opening.{IsNextOf};
 ghost use Rattle.jrn_book.specs.Reading.{IsReady, IsReadyFor, IsSameRead};
 ghost use Rattle.standby.specs.Following.{IsKept, disk_in, held_in};
-ghost use Rattle.standby.specs.Held.{IsBeforeOrWith, IsHeld, count_of, journal};
-ghost use Rattle.standby.specs.Taking.{AddShows, RefusesRecord, broken_after, is_disk_fault};
+ghost use Rattle.standby.specs.Held.{IsHeld, count_of, journal};
+ghost use Rattle.standby.specs.inner.Held.{IsBeforeOrWith};
+ghost use Rattle.standby.specs.Taking.{AddShows, broken_after, is_disk_fault};
+ghost use Rattle.standby.specs.inner.Taking.{RefusesRecord};
 
 use crate::answer::TakeFault;
 use crate::making::make;

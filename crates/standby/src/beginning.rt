@@ -10,7 +10,8 @@ ghost use Rattle.jrn_file.specs.Untouched.{IsUntouched};
 ghost use Rattle.jrn_codec.specs.Header.{head_bytes};
 ghost use Rattle.jrn_book.specs.Journal.{IsJournal, item_records};
 ghost use Rattle.jrn_book.specs.Opening.{BookOpenCause, Finding, IsFound, found_by};
-ghost use Rattle.standby.specs.Following.{BeginsAs, TellsFront, begun_in};
+ghost use Rattle.standby.specs.Following.{BeginsAs, begun_in};
+ghost use Rattle.standby.specs.inner.Following.{TellsFront};
 ghost use Rattle.standby.specs.Held.{IsHeld, IsOnDisk, journal, nothing};
 
 use crate::follower::Follower;

@@ -2,9 +2,12 @@
 
 ghost use Rattle.std.specs.Prelude.{◌≡◌, false, IsTrue, IfErr, IfOk};
 ghost use Rattle.corr_disk.specs.Disk.{LeavesOnly};
-ghost use Rattle.standby.specs.Following.{IsBare, IsKept, disk_in, held_in};
-ghost use Rattle.standby.specs.Held.{ComesNext, IsBeforeOrWith, IsHeld, IsOnDisk, journal, nothing};
-ghost use Rattle.standby.specs.Taking.{AddShows, RefusesRecord, broken_after, fault_of, is_disk_fault};
+ghost use Rattle.standby.specs.Following.{IsKept, disk_in, held_in};
+ghost use Rattle.standby.specs.inner.Following.{IsBare};
+ghost use Rattle.standby.specs.Held.{ComesNext, IsHeld, IsOnDisk, journal, nothing};
+ghost use Rattle.standby.specs.inner.Held.{IsBeforeOrWith};
+ghost use Rattle.standby.specs.Taking.{AddShows, broken_after, is_disk_fault};
+ghost use Rattle.standby.specs.inner.Taking.{RefusesRecord, fault_of};
 
 use crate::answer::TakeFault;
 use crate::place::Place;

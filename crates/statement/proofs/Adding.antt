@@ -17,7 +17,8 @@ use Rattle.day_model.proofs.laws.Fitting.{LegsFit, fitting, listed_account}
 use Rattle.day_model.proofs.laws.Slices.{push_last}
 use Rattle.pay_returns.specs.References.{IsByteQuote, quote_text}
 use Rattle.pay_returns.specs.declared.origin.Origin.{Origin}
-use Rattle.statement.specs.Index.{AreLedgersOf, IsIndexOf, Rise, TakesNext, balance_at, grown, is_next_return, is_of_earlier_day, last_balance, ledger_with, movement_of, movements_of, payment_of}
+use Rattle.statement.specs.Index.{AreLedgersOf, IsIndexOf, TakesNext, grown, is_next_return, ledger_with, movement_of, movements_of, payment_of}
+use Rattle.statement.specs.inner.Index.{Rise, balance_at, is_of_earlier_day, last_balance}
 use Rattle.statement.specs.Legs.{HasQuotes, before_day, legs_on}
 use Rattle.statement.specs.Seen.{IsFront, SeenBook}
 use Rattle.statement.specs.declared.index.HistoryIndex.{HistoryIndex}

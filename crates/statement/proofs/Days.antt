@@ -12,7 +12,8 @@ use Rattle.day_model.specs.Balance.{balance_of}
 use Rattle.day_model.specs.Chart.{Chart}
 use Rattle.day_model.specs.declared.entry.Entry.{Entry}
 use Rattle.day_model.specs.declared.pay.Leg.{Leg}
-use Rattle.statement.specs.Index.{last_balance, movement_of, movements_from}
+use Rattle.statement.specs.Index.{movement_of, movements_from}
+use Rattle.statement.specs.inner.Index.{last_balance}
 use Rattle.statement.specs.Legs.{before_day, legs_on}
 use Rattle.statement.specs.Lines.{up_to_day}
 use Rattle.statement.specs.declared.movement.Movement.{Movement}

@@ -7,7 +7,8 @@ use Rattle.day_model.specs.Chart.{Chart, account_at}
 use Rattle.day_model.specs.declared.account.Account.{Account}
 use Rattle.day_model.specs.declared.entry.Entry.{Entry}
 use Rattle.day_model.specs.declared.pay.Leg.{Leg}
-use Rattle.statement.specs.Index.{last_balance, movement_of, movements_from, movements_of}
+use Rattle.statement.specs.Index.{movement_of, movements_from, movements_of}
+use Rattle.statement.specs.inner.Index.{last_balance}
 use Rattle.statement.specs.Legs.{legs_on}
 use Rattle.statement.specs.declared.movement.Movement.{Movement}
 use Rattle.statement.proofs.Legs.{unmoved}

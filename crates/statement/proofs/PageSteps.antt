@@ -10,11 +10,13 @@ use Rattle.day_model.specs.Chart.{Chart}
 use Rattle.day_model.specs.declared.account.Account.{Account}
 use Rattle.day_model.specs.declared.account.AcctNo.{AcctNo}
 use Rattle.day_model.specs.declared.entry.Entry.{Entry}
-use Rattle.statement.specs.Index.{last_balance, ledger_with, movements_of, on_day}
+use Rattle.statement.specs.Index.{ledger_with, movements_of}
+use Rattle.statement.specs.inner.Index.{last_balance, on_day}
 use Rattle.statement.specs.Legs.{before_day}
 use Rattle.statement.specs.Lines.{lines_on}
 use Rattle.statement.specs.Pages.{balance_after, carried, day_before, lines_of_page, page_at, page_reference, pages_for, pages_from}
-use Rattle.statement.specs.Running.{line_by, page_by, placed_by}
+use Rattle.statement.specs.Running.{line_by, placed_by}
+use Rattle.statement.specs.inner.Running.{page_by}
 use Rattle.statement.specs.declared.movement.Movement.{Movement}
 use Rattle.statement.proofs.Moves.{last-append}
 use Rattle.statement.proofs.Running.{balance-by, lines-are, moves-tell, tells-filter, tells-take}

@@ -8,7 +8,7 @@ use Rattle.std.proofs.lemmas.Bool.{cases_lt}
 use Rattle.std.proofs.lemmas.Int.{ints}
 use Rattle.std.proofs.lemmas.Option.{slice_get-get_or}
 use Rattle.corr_ids.specs.declared.day.Day.{Day}
-use Rattle.statement.specs.Index.{Rise, is_of_earlier_day, last_balance, on_day}
+use Rattle.statement.specs.inner.Index.{Rise, is_of_earlier_day, last_balance, on_day}
 use Rattle.statement.specs.declared.movement.Movement.{Movement}
 
 -- the last of movements tells the balance

@@ -21,13 +21,15 @@ use Rattle.day_model.specs.declared.account.AcctNo.{AcctNo}
 use Rattle.day_model.specs.declared.entry.Entry.{Entry}
 use Rattle.mt950.specs.Page.{mt950_of}
 use Rattle.mt950.specs.declared.page.Page950.{Page950}
-use Rattle.statement.specs.Index.{IsIndexOf, balance_at, last_balance, movements_of, on_day}
+use Rattle.statement.specs.Index.{IsIndexOf, movements_of}
+use Rattle.statement.specs.inner.Index.{balance_at, last_balance, on_day}
 use Rattle.statement.specs.Legs.{before_day}
 use Rattle.statement.specs.Lines.{lines_on}
 use Rattle.statement.specs.Pages.{page_message, page_at, pages_for, pages_from, pages_of, placed_page, placed_pages_of, statement_of}
-use Rattle.statement.specs.Running.{message_by, page_by, placed_page_by}
+use Rattle.statement.specs.inner.Running.{message_by, page_by, placed_page_by}
 use Rattle.statement.specs.Seen.{SeenBook}
-use Rattle.statement.specs.Valid.{AreShaped, ClosesAtBalance, IsPrintable, Prints, PageReadsBack}
+use Rattle.statement.specs.Valid.{AreShaped, ClosesAtBalance, Prints}
+use Rattle.statement.specs.inner.Valid.{IsPrintable, PageReadsBack}
 use Rattle.statement.specs.declared.index.HistoryIndex.{HistoryIndex}
 use Rattle.statement.specs.declared.ledger.Ledger.{Ledger}
 use Rattle.statement.specs.declared.movement.Movement.{Movement}

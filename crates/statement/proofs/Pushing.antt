@@ -16,7 +16,8 @@ use Rattle.day_model.specs.declared.account.Account.{Account}
 use Rattle.day_model.specs.declared.entry.Entry.{Entry}
 use Rattle.day_model.specs.declared.pay.Leg.{Leg}
 use Rattle.day_model.proofs.laws.Fitting.{LegsFit}
-use Rattle.statement.specs.Index.{AreLedgersOf, IsOnOneOf, bookings_of, changed_at, ledger_with, movement_of, movements_of, pushed, pushed_each}
+use Rattle.statement.specs.Index.{AreLedgersOf, ledger_with, movement_of, movements_of}
+use Rattle.statement.specs.inner.Index.{IsOnOneOf, bookings_of, changed_at, pushed, pushed_each}
 use Rattle.statement.specs.Legs.{legs_on}
 use Rattle.statement.specs.declared.ledger.Booking.{Booking}
 use Rattle.statement.specs.declared.ledger.Ledger.{Ledger}

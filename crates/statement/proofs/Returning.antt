@@ -8,7 +8,8 @@ use Rattle.pay_returns.specs.Equal.{is_equal}
 use Rattle.pay_returns.specs.Opposite.{opposite_pay}
 use Rattle.pay_returns.specs.Returns.{named_place}
 use Rattle.pay_returns.specs.declared.origin.Origin.{Origin}
-use Rattle.statement.specs.Index.{IsOnAccount, TakesNext, is_next_return, payments_of}
+use Rattle.statement.specs.Index.{TakesNext, is_next_return, payments_of}
+use Rattle.statement.specs.inner.Index.{IsOnAccount}
 use Rattle.statement.specs.Seen.{SeenBook}
 use Rattle.statement.specs.declared.index.HistoryIndex.{HistoryIndex}
 use Rattle.statement.proofs.Adding.{next-fit}

@@ -10,7 +10,8 @@ use Rattle.day_model.specs.Balance.{balance_of}
 use Rattle.day_model.specs.Chart.{Chart}
 use Rattle.day_model.specs.declared.entry.Entry.{Entry}
 use Rattle.day_model.specs.declared.pay.Leg.{Leg}
-use Rattle.statement.specs.Index.{is_next_return, last_balance, movement_of, movements_from, on_day}
+use Rattle.statement.specs.Index.{is_next_return, movement_of, movements_from}
+use Rattle.statement.specs.inner.Index.{last_balance, on_day}
 use Rattle.statement.specs.Legs.{before_day, legs_on}
 use Rattle.statement.specs.Lines.{Placed, entry_line, is_return, lines_from}
 use Rattle.statement.specs.Pages.{balance_after}

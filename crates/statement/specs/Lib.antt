@@ -5,3 +5,4 @@ pub mod Pages
 pub mod Index
 pub mod Running
 pub mod Valid
+pub mod inner

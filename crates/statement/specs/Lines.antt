@@ -1,5 +1,5 @@
 -- The lines of an account's statement.
-use Rattle.std.specs.Prelude.{ℕ, ◌+◌, ◌≤◌, Bool, true, false, List, [], ◌∷◌, ◌++◌, drop, map, Some, None, codes, int_le, is_some, if◌then◌else◌}
+use Rattle.std.specs.Prelude.{ℕ, ◌+◌, Bool, true, false, List, [], ◌∷◌, ◌++◌, drop, map, Some, None, codes, int_le, is_some, if◌then◌else◌}
 use Rattle.std.specs.Ordering.{int_eq}
 use Rattle.std.specs.List.{filter}
 use Rattle.corr_ids.specs.Day.{yymmdd_of}
@@ -74,12 +74,3 @@ is_return chart entries place = is_some (returns_place chart entries place)
 -- the lines of account n on a day: the entries of that day that are booked on it, in the order of the journal
 abbrev pub lines_on : Chart → ℕ → Day → List Entry → List Placed
 lines_on chart n day entries = lines_from (is_return chart entries) n day 1 entries
-
--- the numbers of what is in a list rise, from this one on
-abbrev pub RiseFrom : {A : Type 0} → (A → ℕ) → ℕ → List A → Type 0
-RiseFrom number low [] = Unit {0}
-RiseFrom number low (x ∷ xs) = (low ≤ number x) × RiseFrom number (number x + 1) xs
-
--- the places of lines rise
-abbrev pub PlacesFrom : ℕ → List Placed → Type 0
-PlacesFrom low ps = RiseFrom (λ p. p.place) low ps

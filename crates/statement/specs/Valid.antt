@@ -1,34 +1,26 @@
 -- What holds of the pages of a statement.
-use Rattle.std.specs.Prelude.{◌≡◌, ℕ, true, List, [], Some, None, Ok, All, map}
+use Rattle.std.specs.Prelude.{◌≡◌, ℕ, true, List, Some, Ok, All, map}
 use Rattle.corr_ids.specs.Bic.{IsBic}
 use Rattle.corr_ids.specs.Day.{InCentury}
 use Rattle.corr_ids.specs.declared.bic.Bic.{Bic}
 use Rattle.corr_ids.specs.declared.day.Day.{Day}
 use Rattle.corr_ids.specs.declared.envelope.Envelope.{Envelope}
 use Rattle.ref_tables.specs.Seen.{Tables, decimals_in, has_head}
-use Rattle.fin_blocks.specs.Blocks.{blocks_of}
-use Rattle.fin_blocks.specs.Sending.{sent_blocks, sent_text}
-use Rattle.fin_fields.specs.Faults.{field_fault}
-use Rattle.fin_fields.specs.Fields.{fields_of}
-use Rattle.fin_fields.specs.Writing.{fields_text}
-use Rattle.fin_fields.specs.declared.field.Field.{Field}
 use Rattle.fin_message.specs.Verdict.{sent_verdict_of}
 use Rattle.fin_message.specs.declared.message.Message.TheVariants.{Page}
 use Rattle.day_model.specs.Balance.{balance_of}
-use Rattle.day_model.specs.Chart.{Chart, HasCode, IsChart, IsListed, account_at, accounts_of}
+use Rattle.day_model.specs.Chart.{Chart, account_at}
 use Rattle.day_model.specs.Shape.{HasShape}
 use Rattle.day_model.specs.declared.account.Account.{Account}
 use Rattle.day_model.specs.declared.entry.Entry.{Entry}
 use Rattle.mt950.specs.Joining.{joined_of}
-use Rattle.mt950.specs.Page.{mt950_of}
-use Rattle.mt950.specs.Writing.{fields_950}
 use Rattle.mt950.specs.declared.joining.Statement.{Statement}
 use Rattle.mt950.specs.declared.page.Page950.{Page950}
 use Rattle.statement.specs.Index.{HasAccount}
-use Rattle.statement.specs.Legs.{HasQuotes, before_day}
+use Rattle.statement.specs.Legs.{before_day}
 use Rattle.statement.specs.Lines.{lines_on, up_to_day}
 use Rattle.statement.specs.Pages.{page_message, statement_of}
-use Rattle.statement.specs.Seen.{IsFront, SeenBook}
+use Rattle.statement.specs.Seen.{SeenBook}
 use Rattle.statement.specs.declared.index.HistoryIndex.{HistoryIndex}
 
 -- entries whose pays can be written down, so that each quotes a reference
@@ -47,13 +39,6 @@ pub record ClosesAt (chart : Chart) (entries : List Entry) (n : ℕ) (day : Day)
 -- the pages of account n are such a statement
 abbrev pub ClosesAtBalance : Chart → List Entry → ℕ → Day → Type 0
 ClosesAtBalance chart entries n day = (statement : Statement) × ClosesAt chart entries n day statement
-
--- a page's message is read into the blocks that it was written of, its lines are cut without fault, and wherever the page is read
--- of any fields it is read of these lines
-pub record PageReadsBack (home to : Bic) (page : Page950) : Type 0 where
-  pub blocks : blocks_of (sent_text home 950 to [] (fields_text (fields_950 page))) ≡ Ok (sent_blocks home 950 to [] (fields_text (fields_950 page)))
-  pub cut : field_fault (fields_text (fields_950 page)) ≡ None
-  pub again : (t : Tables) (fs : List Field) → mt950_of t fs ≡ Ok page → mt950_of t (fields_of (fields_text (fields_950 page))) ≡ Ok page
 
 -- tables hold an account's owner, and its currency with its decimals
 pub record TablesKnow (t : Tables) (account : Account) : Type 0 where
@@ -76,13 +61,3 @@ pub record Prints (index : HistoryIndex) (n : ℕ) (day : Day) (book : SeenBook)
   pub shaped : AreShaped book.entries
   pub home : IsBic book.chart.home
   pub century : InCentury day
-
--- what a statement of account n on a day needs of its book: all of it is in `Prints`
-pub record IsPrintable (book : SeenBook) (n : ℕ) (day : Day) : Type 0 where
-  pub chart : IsChart book.chart
-  pub legal : IsFront book.chart book.entries
-  pub listed : IsListed book.chart n
-  pub shaped : AreShaped book.entries
-  pub century : InCentury day
-  pub codes : All HasCode (accounts_of book.chart)
-  pub quotes : All HasQuotes book.entries

@@ -8,7 +8,8 @@ ghost use Rattle.day_model.specs.Chart.{HasCode, IsChart, IsListed, accounts_of}
 ghost use Rattle.day_model.specs.Legal.{IsLegal};
 ghost use Rattle.pay_returns.specs.Opposite.{credit_notice, debit_notice, origin_of, told_of};
 ghost use Rattle.pay_returns.specs.References.{IsByteQuote};
-ghost use Rattle.statement.specs.Index.{AreLedgersOf, HasAccount, IsIndexOf, IsOnAccount, TakesNext, bookings_of, grown, is_next_return, ledger_with, movement_of};
+ghost use Rattle.statement.specs.Index.{AreLedgersOf, HasAccount, IsIndexOf, TakesNext, grown, is_next_return, ledger_with, movement_of};
+ghost use Rattle.statement.specs.inner.Index.{IsOnAccount, bookings_of};
 ghost use Rattle.statement.specs.Legs.{HasQuotes, before_day, legs_on};
 ghost use Rattle.statement.specs.Lines.{lines_on, up_to_day};
 ghost use Rattle.statement.specs.Running.{placed_by};

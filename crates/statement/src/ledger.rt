@@ -6,7 +6,8 @@ ghost use Rattle.corr_money.specs.Amounts.{amount_end};
 ghost use Rattle.day_model.specs.Balance.{changed};
 ghost use Rattle.day_model.specs.Chart.{IsSmall, HasCode};
 ghost use Rattle.corr_ids.specs.Day.{InCentury};
-ghost use Rattle.statement.specs.Index.{IsOnOneOf, Rise, balance_at, changed_at, is_of_earlier_day, last_balance, ledger_with, on_day, pushed, pushed_each, undone};
+ghost use Rattle.statement.specs.Index.{ledger_with};
+ghost use Rattle.statement.specs.inner.Index.{IsOnOneOf, Rise, balance_at, changed_at, is_of_earlier_day, last_balance, on_day, pushed, pushed_each, undone};
 
 use crate::movement::{Movement, Movements, balance_after};
 use corr_ids::{Bic, Day};

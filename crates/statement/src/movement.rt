@@ -1,7 +1,7 @@
 //! Movements on an account.
 
 ghost use Rattle.std.specs.Prelude.{◌≡◌, ◌-◌, ◌∷◌, [], ◌++◌, length, take, OnErr, OnOk};
-ghost use Rattle.statement.specs.Index.{last_balance};
+ghost use Rattle.statement.specs.inner.Index.{last_balance};
 
 use corr_ids::Day;
 use corr_money::Minor;

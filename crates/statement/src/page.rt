@@ -6,8 +6,8 @@ ghost use Rattle.corr_ids.specs.Day.{InCentury};
 ghost use Rattle.fin_contents.specs.Writing.{IsReadable};
 ghost use Rattle.mt950.specs.Page.{mt950_of};
 ghost use Rattle.statement.specs.Pages.{day_before};
-ghost use Rattle.statement.specs.Running.{message_by, opening_by, page_by, placed_page_by};
-ghost use Rattle.statement.specs.Valid.{PageReadsBack};
+ghost use Rattle.statement.specs.inner.Running.{message_by, opening_by, page_by, placed_page_by};
+ghost use Rattle.statement.specs.inner.Valid.{PageReadsBack};
 
 use crate::ledger::Ledger;
 use crate::line::lines_of;

@@ -8,9 +8,10 @@ ghost use Rattle.day_model.specs.Legal.{IsLegal};
 ghost use Rattle.fin_contents.specs.Writing.{IsReadable};
 ghost use Rattle.mt950.specs.Page.{mt950_of};
 ghost use Rattle.statement.specs.Pages.{most_lines, pages_for, pages_of, placed_pages_of};
-ghost use Rattle.statement.specs.Running.{message_by};
+ghost use Rattle.statement.specs.inner.Running.{message_by};
 ghost use Rattle.statement.specs.Seen.{SeenBook};
-ghost use Rattle.statement.specs.Valid.{PageReadsBack, PagesAreAccepted, AreShaped, ClosesAtBalance, Prints};
+ghost use Rattle.statement.specs.Valid.{PagesAreAccepted, AreShaped, ClosesAtBalance, Prints};
+ghost use Rattle.statement.specs.inner.Valid.{PageReadsBack};
 
 use crate::index::HistoryIndex;
 use crate::ledger::between;

@@ -3,9 +3,9 @@ use Rattle.std.proofs.Common.{◌≡◌, ◌≤◌, ◌<◌, ◌+◌, ◌-◌, �
 use Rattle.std.specs.Global.{Vec}
 use Rattle.std.proofs.lemmas.Option.{slice_get_within}
 use Rattle.std.proofs.lemmas.List.{length-map}
-use Rattle.work_pool.specs.Line.{times, numbered, numbers_of, AreAmong, IsAll}
-use Rattle.work_pool.specs.Seating.{joined}
-use Rattle.work_pool.specs.Serving.{ServedItems}
+use Rattle.work_pool.specs.inner.Line.{times, numbered, numbers_of, AreAmong, IsAll}
+use Rattle.work_pool.specs.inner.Seating.{joined}
+use Rattle.work_pool.specs.inner.Serving.{ServedItems}
 use Rattle.work_pool.specs.Fed.{FedWith, AreApart, AreFed, AreReplies, AreWhole, AreWithin, answer_in}
 use Rattle.work_pool.specs.declared.line.Numbered.{Numbered}
 use Rattle.work_pool.specs.declared.line.Known.{Known}

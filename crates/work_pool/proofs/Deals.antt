@@ -7,8 +7,8 @@ use Rattle.std.proofs.lemmas.Bool.{cases_eq}
 use Rattle.std.proofs.lemmas.List.{length-map, map-append, map-set}
 use Rattle.std.proofs.lemmas.Nat.{mod_below, mul-le}
 use Rattle.std.proofs.lemmas.Option.{slice_get_within, slice_get_past, slice_get_read, slice_get-map, none-some, same_Some}
-use Rattle.work_pool.specs.Hands.{Task, unserved}
-use Rattle.work_pool.specs.Tasks.{AreInHands, AreInLists}
+use Rattle.work_pool.specs.inner.Hands.{Task, unserved}
+use Rattle.work_pool.specs.inner.Tasks.{AreInHands, AreInLists}
 use Rattle.work_pool.proofs.Places.{slice_get-snoc_here, slice_get-snoc_else, slice_get-set_here, slice_get-set_else, there_is}
 use Rattle.work_pool.proofs.Turns.{place_of, place_only}
 

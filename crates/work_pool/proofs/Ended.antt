@@ -5,12 +5,12 @@ use Rattle.crossbeam_queue.specs.declared.array_queue.Slotted.{Slotted}
 use Rattle.crossbeam_queue.specs.declared.array_queue.Doing.{Doing}
 use Rattle.crossbeam_queue.specs.Fifo.{Held}
 use Rattle.crossbeam_queue.specs.Passes.{view}
-use Rattle.work_pool.specs.Ending.{HasEnded}
-use Rattle.work_pool.specs.Line.{IsAll, Tells, numbers_of, times}
-use Rattle.work_pool.specs.Placing.{lists_of}
-use Rattle.work_pool.specs.Seating.{AllGo, AreHelpers, IsLeader, TakesBack, joined, taken_of}
+use Rattle.work_pool.specs.inner.Ending.{HasEnded}
+use Rattle.work_pool.specs.inner.Line.{IsAll, Tells, numbers_of, times}
+use Rattle.work_pool.specs.inner.Placing.{lists_of}
+use Rattle.work_pool.specs.inner.Seating.{AllGo, AreHelpers, IsLeader, TakesBack, joined, taken_of}
 use Rattle.work_pool.specs.Served.{most_workers}
-use Rattle.work_pool.specs.Serving.{Goes, PutsNone, ServedItems}
+use Rattle.work_pool.specs.inner.Serving.{Goes, PutsNone, ServedItems}
 use Rattle.work_pool.specs.declared.line.Numbered.{Numbered}
 use Rattle.work_pool.specs.declared.line.Known.{Known}
 use Rattle.work_pool.specs.declared.server.Answer.{Answer}

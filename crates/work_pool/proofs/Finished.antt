@@ -7,12 +7,12 @@ use Rattle.std.proofs.Common.{get_or}
 use Rattle.crossbeam_queue.specs.declared.array_queue.Slotted.{Slotted}
 use Rattle.crossbeam_queue.specs.declared.array_queue.Doing.{Doing}
 use Rattle.crossbeam_queue.specs.Passes.{view}
-use Rattle.work_pool.specs.Ending.{HasEnded}
+use Rattle.work_pool.specs.inner.Ending.{HasEnded}
 use Rattle.work_pool.specs.Fed.{AreApart, AreFed, AreReplies, AreWhole, AreWithin}
-use Rattle.work_pool.specs.Placing.{lists_of}
-use Rattle.work_pool.specs.Seating.{AllGo, AreHelpers, AreHelping, AreReady, IsLeader, taken_of}
+use Rattle.work_pool.specs.inner.Placing.{lists_of}
+use Rattle.work_pool.specs.inner.Seating.{AllGo, AreHelpers, AreHelping, AreReady, IsLeader, taken_of}
 use Rattle.work_pool.specs.Served.{AllTaken, most_workers}
-use Rattle.work_pool.specs.Serving.{Goes, HasFed, IsReady}
+use Rattle.work_pool.specs.inner.Serving.{Goes, HasFed, IsReady}
 use Rattle.work_pool.specs.declared.line.Numbered.{Numbered}
 use Rattle.work_pool.specs.declared.line.Known.{Known}
 use Rattle.work_pool.specs.declared.server.Work.{Work}

@@ -1,8 +1,8 @@
 -- A worker goes on from job to job.
 use Rattle.std.proofs.Common.{◌≡◌, List, [], ◌∷◌, ◌++◌, refl, ap, sym, ◌∙◌, subst, append_assoc, append-nil}
 use Rattle.crossbeam_queue.specs.Passes.{view}
-use Rattle.work_pool.specs.Line.{puts, takes}
-use Rattle.work_pool.specs.Serving.{ServedItems, Goes}
+use Rattle.work_pool.specs.inner.Line.{puts, takes}
+use Rattle.work_pool.specs.inner.Serving.{ServedItems, Goes}
 use Rattle.work_pool.specs.declared.line.Numbered.{Numbered}
 use Rattle.work_pool.specs.declared.line.Known.{Known}
 use Rattle.work_pool.specs.declared.server.Answer.{Answer}

@@ -2,8 +2,8 @@
 use Rattle.std.proofs.Common.{◌≡◌, ◌≤◌, ℕ, zero, suc, List, [], ◌∷◌, ◌++◌, length, length-append, map, get_or, Option, None, Some, refl, ap, sym, ◌∙◌, arith, rules}
 use Rattle.std.specs.List.{slice_get}
 use Rattle.std.specs.Option.{IsSome, option_to_list}
-use Rattle.work_pool.specs.Hands.{Task, tasks_of, unserved}
-use Rattle.work_pool.specs.Tasks.{AreReplied, reply_of}
+use Rattle.work_pool.specs.inner.Hands.{Task, tasks_of, unserved}
+use Rattle.work_pool.specs.inner.Tasks.{AreReplied, reply_of}
 
 module _ {Job Reply : Type 0} where
   pub length-tasks_of : (jobs : List Job) (replies : List Reply) → length (tasks_of jobs replies) ≡ length jobs

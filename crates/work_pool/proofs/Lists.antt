@@ -5,8 +5,8 @@ use Rattle.std.specs.Option.{option_map}
 use Rattle.std.proofs.Math.Nat.{suc-mul}
 use Rattle.std.proofs.lemmas.Nat.{mod_below, mul-le}
 use Rattle.std.proofs.lemmas.Option.{slice_get_within, slice_get_past, none-some, same_Some}
-use Rattle.work_pool.specs.Hands.{Task, unserved}
-use Rattle.work_pool.specs.Tasks.{AreInHands}
+use Rattle.work_pool.specs.inner.Hands.{Task, unserved}
+use Rattle.work_pool.specs.inner.Tasks.{AreInHands}
 use Rattle.work_pool.specs.Served.{AreRising, StandsIn, AreDealt, AreInTurn}
 use Rattle.work_pool.proofs.Places.{there_is}
 use Rattle.work_pool.proofs.Turns.{place_of, place_only}

@@ -4,7 +4,7 @@ use Rattle.std.proofs.Math.Seq.{map-set_same}
 use Rattle.std.proofs.lemmas.List.{length-map, map-set}
 use Rattle.std.proofs.lemmas.Option.{slice_get-get_or, slice_get_within, same_Some}
 use Rattle.work_pool.specs.Fed.{AreApart, AreReplies, AreWhole, AreWithin, answer_in}
-use Rattle.work_pool.specs.Placing.{AreDistinct, ArePlaced, AreSlots, KeepsOthers, lists_of}
+use Rattle.work_pool.specs.inner.Placing.{AreDistinct, ArePlaced, AreSlots, KeepsOthers, lists_of}
 use Rattle.work_pool.specs.declared.server.Answer.{Answer}
 use Rattle.work_pool.specs.declared.server.Work.{Work}
 use Rattle.work_pool.proofs.Answered.{list_of}

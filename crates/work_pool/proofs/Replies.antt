@@ -10,8 +10,8 @@ use Rattle.std.proofs.lemmas.List.{reverse-append}
 use Rattle.std.proofs.lemmas.Nat.{mod_below}
 use Rattle.std.proofs.lemmas.Option.{slice_get-get_or, slice_get_past, slice_get_within, none-some, same_Some}
 use Rattle.work_pool.specs.declared.seat.Seat.{Seat}
-use Rattle.work_pool.specs.Hands.{Task}
-use Rattle.work_pool.specs.Tasks.{AreReplied, reply_of, reply_in, task_in}
+use Rattle.work_pool.specs.inner.Hands.{Task}
+use Rattle.work_pool.specs.inner.Tasks.{AreReplied, reply_of, reply_in, task_in}
 use Rattle.work_pool.proofs.Places.{slice_get-snoc_here, slice_get-snoc_else, slice_get-set_here, slice_get-set_else, there_is}
 use Rattle.work_pool.proofs.Turns.{place_of, place_only}
 

@@ -8,7 +8,7 @@ use Rattle.crossbeam_queue.specs.Fifo.{Pushes, Pops, Forks, Merges, Learns}
 use Rattle.crossbeam_queue.proofs.Lists.{at_set, at_snoc}
 use Rattle.work_pool.specs.declared.line.Numbered.{Numbered}
 use Rattle.work_pool.specs.declared.line.Known.{Known}
-use Rattle.work_pool.specs.Line.{times, numbered, numbered_from, numbers_of, AreAmong, knows_all, one_part, spent, without_part, with_other, puts, takes, IsKnown, IsShared, Tells}
+use Rattle.work_pool.specs.inner.Line.{times, numbered, numbered_from, numbers_of, AreAmong, knows_all, one_part, spent, without_part, with_other, puts, takes, IsKnown, IsShared, Tells}
 
 -- the total after a change of one view
 total_set : {A : Type 0} (f : A → ℕ) (views : List A) (place : ℕ) (v w : A) → get_elem? views place ≡ some v → sum_by f (set views place w) + f v ≡ sum_by f views + f w

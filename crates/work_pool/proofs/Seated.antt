@@ -3,9 +3,9 @@ use Rattle.std.proofs.Common.{◌≡◌, ◌+◌, ℕ, zero, suc, List, [], ◌�
 use Rattle.crossbeam_queue.specs.declared.array_queue.Slotted.{Slotted}
 use Rattle.crossbeam_queue.specs.declared.array_queue.Doing.{Doing}
 use Rattle.crossbeam_queue.specs.Passes.{view, IsPassOf}
-use Rattle.work_pool.specs.Line.{times, numbers_of, one_part, with_other, AreAmong}
-use Rattle.work_pool.specs.Seating.{AreHelpers, joined, taken_of, TakesBack}
-use Rattle.work_pool.specs.Serving.{ServedItems, Goes}
+use Rattle.work_pool.specs.inner.Line.{times, numbers_of, one_part, with_other, AreAmong}
+use Rattle.work_pool.specs.inner.Seating.{AreHelpers, joined, taken_of, TakesBack}
+use Rattle.work_pool.specs.inner.Serving.{ServedItems, Goes}
 use Rattle.work_pool.specs.declared.line.Numbered.{Numbered}
 use Rattle.work_pool.specs.declared.line.Known.{Known}
 use Rattle.work_pool.specs.declared.server.Server.{Server}

@@ -1,8 +1,8 @@
 -- One job more is served.
 use Rattle.std.proofs.Common.{◌≡◌, ◌<◌, ◌≤◌, ◌+◌, ℕ, List, [], ◌∷◌, ◌++◌, length, take, get_or, Some, refl, ap, sym, ◌∙◌, subst, arith}
 use Rattle.std.proofs.lemmas.List.{length-take-le, take_all, take_more}
-use Rattle.work_pool.specs.Hands.{Task, tasks_of, unserved}
-use Rattle.work_pool.specs.Tasks.{ServedHand}
+use Rattle.work_pool.specs.inner.Hands.{Task, tasks_of, unserved}
+use Rattle.work_pool.specs.inner.Tasks.{ServedHand}
 use Rattle.work_pool.proofs.Hands.{length-tasks_of, tasks-snoc, job-at}
 
 module _ {Pass Job Reply : Type 0} (serves : Pass → Job → Pass → Reply → Type 0) where

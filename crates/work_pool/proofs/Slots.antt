@@ -1,6 +1,6 @@
 -- Replies are put where their numbers say.
 use Rattle.std.proofs.Common.{◌≡◌, ◌≢◌, ◌<◌, ◌+◌, ◌-◌, ℕ, zero, suc, List, [], ◌∷◌, ◌++◌, length, length-set, set, slice_get, Option, Some, refl, ap, sym, ◌∙◌, subst, arith, rules, ⊎_elim, append_assoc}
-use Rattle.work_pool.specs.Placing.{AreDistinct, ArePlaced, AreSlots, KeepsOthers}
+use Rattle.work_pool.specs.inner.Placing.{AreDistinct, ArePlaced, AreSlots, KeepsOthers}
 use Rattle.work_pool.specs.declared.server.Answer.{Answer}
 use Rattle.work_pool.proofs.Rule.{get_stays, get_behind, get_of_two}
 

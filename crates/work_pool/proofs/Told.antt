@@ -3,9 +3,9 @@ use Rattle.std.proofs.Common.{◌≡◌, ◌≢◌, ◌<◌, ◌≤◌, ◌+◌,
 use Rattle.std.proofs.lemmas.List.Sums.{sum_by-cons, sum_by-append}
 use Rattle.std.proofs.lemmas.List.{map-append}
 use Rattle.std.proofs.lemmas.Bool.Decides.{nat_tests}
-use Rattle.work_pool.specs.Line.{times, numbered_from, numbers_of}
-use Rattle.work_pool.specs.Seating.{joined}
-use Rattle.work_pool.specs.Serving.{ServedItems}
+use Rattle.work_pool.specs.inner.Line.{times, numbered_from, numbers_of}
+use Rattle.work_pool.specs.inner.Seating.{joined}
+use Rattle.work_pool.specs.inner.Serving.{ServedItems}
 use Rattle.work_pool.specs.Fed.{FedWith, AreApart, answer_in}
 use Rattle.work_pool.specs.declared.line.Numbered.{Numbered}
 use Rattle.work_pool.specs.declared.server.Answer.{Answer}

@@ -5,9 +5,9 @@ use Rattle.std.specs.Option.{IsSome, option_map, option_and_then}
 use Rattle.std.proofs.lemmas.List.{length-map}
 use Rattle.std.proofs.lemmas.Nat.{mod_below}
 use Rattle.std.proofs.lemmas.Option.{slice_get_within, slice_get_past, slice_get_read, slice_get-map, get_or_from_slice_get, none-some, same_Some}
-use Rattle.work_pool.specs.Hands.{Task, unserved}
+use Rattle.work_pool.specs.inner.Hands.{Task, unserved}
 use Rattle.work_pool.specs.declared.seat.Seat.{Seat}
-use Rattle.work_pool.specs.Tasks.{reply_of, reply_in, task_in, AreInHands, AreSeated, ServedHand, ServedSeats}
+use Rattle.work_pool.specs.inner.Tasks.{reply_of, reply_in, task_in, AreInHands, AreSeated, ServedHand, ServedSeats}
 use Rattle.work_pool.specs.Served.{AllTaken, AreDealt, AreInTurn, AreServed, ServedWith}
 use Rattle.work_pool.proofs.Places.{there_is}
 use Rattle.work_pool.proofs.Turns.{place_of, place_only}

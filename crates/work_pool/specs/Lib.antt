@@ -1,9 +1,3 @@
 pub mod Served
-pub mod Hands
-pub mod Tasks
-pub mod Line
-pub mod Serving
 pub mod Fed
-pub mod Placing
-pub mod Seating
-pub mod Ending
+pub mod inner

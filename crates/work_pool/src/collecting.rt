@@ -1,7 +1,7 @@
 //! Replies are collected, and passes given back.
 
 ghost use Rattle.std.specs.Prelude.{◌≡◌, ℕ, ◌<◌, ◌≤◌, ◌/◌, ◌%◌, [], length, map, IsSome, None, slice_get, vec_len, vec_capacity};
-ghost use Rattle.work_pool.specs.Tasks.{reply_in, task_in};
+ghost use Rattle.work_pool.specs.inner.Tasks.{reply_in, task_in};
 
 use crate::seat::Seat;
 use std::alloc::Global;

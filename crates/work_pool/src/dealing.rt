@@ -2,7 +2,7 @@
 
 ghost use Rattle.std.specs.Prelude.{◌≡◌, ◌<◌, ◌≤◌, [], IfOk, map, vec_len, vec_capacity};
 ghost use Rattle.work_pool.specs.Served.{most_workers};
-ghost use Rattle.work_pool.specs.Tasks.{AreInHands, AreInLists, AreSeated};
+ghost use Rattle.work_pool.specs.inner.Tasks.{AreInHands, AreInLists, AreSeated};
 
 use crate::hand::Hand;
 use crate::seat::Seat;

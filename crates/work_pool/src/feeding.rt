@@ -3,8 +3,8 @@
 ghost use Rattle.std.specs.Prelude.{◌≡◌, ◌+◌, true, [], ◌∷◌, ◌++◌, length, Ok, IfOk, OnErr};
 ghost use Rattle.crossbeam_queue.specs.Fifo.{Held};
 ghost use Rattle.crossbeam_queue.specs.Passes.{view};
-ghost use Rattle.work_pool.specs.Line.{Tells};
-ghost use Rattle.work_pool.specs.Serving.{Goes, HasFed, PutsNone, PutsOne, IsReady};
+ghost use Rattle.work_pool.specs.inner.Line.{Tells};
+ghost use Rattle.work_pool.specs.inner.Serving.{Goes, HasFed, PutsNone, PutsOne, IsReady};
 
 use crate::desk::Desk;
 use crate::feed::Feed;

@@ -1,8 +1,8 @@
 //! A worker's jobs.
 
 ghost use Rattle.std.specs.Prelude.{◌≡◌, ℕ, ◌<◌, ◌≤◌, ◌++◌, ◌∷◌, [], IfOk, List, Some, length, map, slice_get, vec_capacity};
-ghost use Rattle.work_pool.specs.Hands.{Task as TaskOf, tasks_of, unserved};
-ghost use Rattle.work_pool.specs.Tasks.{AreReplied, ServedHand, reply_of};
+ghost use Rattle.work_pool.specs.inner.Hands.{Task as TaskOf, tasks_of, unserved};
+ghost use Rattle.work_pool.specs.inner.Tasks.{AreReplied, ServedHand, reply_of};
 
 use crate::desk::Desk;
 use crate::gate::Gate;
@@ -22,7 +22,7 @@ pub struct Hand<J, R> {
 
 impl<J, R> Model for Hand<J, R> {
     ghost use Rattle.std.specs.Prelude.{◌≤◌, List, length, vec_capacity};
-    ghost use Rattle.work_pool.specs.Hands.{Task, tasks_of};
+    ghost use Rattle.work_pool.specs.inner.Hands.{Task, tasks_of};
 
     ghost Value = { List (Task J R) };
 

@@ -25,7 +25,7 @@ pub struct Known<J> {
 pub struct OnceEach;
 
 impl<J> Protocol<Numbered<J>, Known<J>> for OnceEach {
-    ghost use Rattle.work_pool.specs.Line.{IsShared, knows_all};
+    ghost use Rattle.work_pool.specs.inner.Line.{IsShared, knows_all};
 
     ghost holds = { IsShared };
 
@@ -37,7 +37,7 @@ pub struct Puts;
 
 impl<J> Outcome<Numbered<J>, Known<J>> for Puts {
     ghost use Rattle.std.specs.Prelude.{◌≡◌};
-    ghost use Rattle.work_pool.specs.Line.{puts};
+    ghost use Rattle.work_pool.specs.inner.Line.{puts};
 
     ghost then = { λ v x w. w ≡ puts v x };
 }
@@ -51,13 +51,13 @@ pub struct Takes;
 
 impl<J> Outcome<Numbered<J>, Known<J>> for Takes {
     ghost use Rattle.std.specs.Prelude.{◌≡◌};
-    ghost use Rattle.work_pool.specs.Line.{takes};
+    ghost use Rattle.work_pool.specs.inner.Line.{takes};
 
     ghost then = { λ v x w. w ≡ takes v x };
 }
 
 impl<J> Lesson<Numbered<J>, Known<J>> for Takes {
-    ghost use Rattle.work_pool.specs.Line.{Tells};
+    ghost use Rattle.work_pool.specs.inner.Line.{Tells};
 
     ghost fact = { Tells };
 }
@@ -66,7 +66,7 @@ impl<J> Lesson<Numbered<J>, Known<J>> for Takes {
 pub struct Cut;
 
 impl<J> Split<Known<J>> for Cut {
-    ghost use Rattle.work_pool.specs.Line.{without_part, one_part};
+    ghost use Rattle.work_pool.specs.inner.Line.{without_part, one_part};
 
     ghost left = { without_part };
 
@@ -77,7 +77,7 @@ impl<J> Split<Known<J>> for Cut {
 pub struct Back;
 
 impl<J> Join<Known<J>> for Back {
-    ghost use Rattle.work_pool.specs.Line.{with_other, spent};
+    ghost use Rattle.work_pool.specs.inner.Line.{with_other, spent};
 
     ghost both = { with_other };
 

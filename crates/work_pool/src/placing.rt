@@ -2,7 +2,7 @@
 
 ghost use Rattle.std.specs.Prelude.{◌≡◌, ℕ, ◌-◌, ◌<◌, ◌≤◌, List, [], Some, Ok, IfOk, length, map, slice_get, vec_len, vec_capacity};
 ghost use Rattle.work_pool.specs.Fed.{AreApart, AreReplies, AreWhole, AreWithin};
-ghost use Rattle.work_pool.specs.Placing.{AreDistinct, ArePlaced, AreSlots, KeepsOthers, lists_of};
+ghost use Rattle.work_pool.specs.inner.Placing.{AreDistinct, ArePlaced, AreSlots, KeepsOthers, lists_of};
 
 use crate::server::{Answer, Work};
 use corr_text::Memory;

@@ -1,7 +1,7 @@
 //! The memory of a run.
 
 ghost use Rattle.std.specs.Prelude.{◌≡◌, ◌<◌, ◌≤◌, [], IfOk, vec_len, vec_capacity};
-ghost use Rattle.work_pool.specs.Tasks.{AreInHands};
+ghost use Rattle.work_pool.specs.inner.Tasks.{AreInHands};
 
 use crate::dealing::deal;
 use crate::hand::Hand;

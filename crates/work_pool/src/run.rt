@@ -2,7 +2,7 @@
 
 ghost use Rattle.std.specs.Prelude.{◌≡◌, ◌<◌, ◌≤◌, length, map, IfOk, OnErr, vec_len};
 ghost use Rattle.work_pool.specs.Served.{AllTaken, AreServed, most_workers};
-ghost use Rattle.work_pool.specs.Tasks.{ServedHand, ServedSeats};
+ghost use Rattle.work_pool.specs.inner.Tasks.{ServedHand, ServedSeats};
 
 use crate::collecting::{collect, vacate};
 use crate::dealing::seat_all;

@@ -2,8 +2,8 @@
 
 ghost use Rattle.std.specs.Prelude.{◌≡◌, ◌+◌, ◌<◌, ◌≤◌, true, [], ◌∷◌, ◌++◌, IfOk, map, length, vec_len, vec_capacity};
 ghost use Rattle.crossbeam_queue.specs.Passes.{view, IsPassOf};
-ghost use Rattle.work_pool.specs.Line.{knows_all};
-ghost use Rattle.work_pool.specs.Seating.{AreHelpers, AreHelping, IsLeader, TakesBack};
+ghost use Rattle.work_pool.specs.inner.Line.{knows_all};
+ghost use Rattle.work_pool.specs.inner.Seating.{AreHelpers, AreHelping, IsLeader, TakesBack};
 ghost use Rattle.work_pool.specs.Served.{most_workers};
 
 use crate::line::{Back, Cut, Line, Token};

@@ -3,8 +3,8 @@
 ghost use Rattle.std.specs.Prelude.{◌≡◌, ◌<◌, false, IfOk};
 ghost use Rattle.crossbeam_queue.specs.Fifo.{Held};
 ghost use Rattle.crossbeam_queue.specs.Passes.{view};
-ghost use Rattle.work_pool.specs.Line.{Tells};
-ghost use Rattle.work_pool.specs.Serving.{Goes, PutsNone, IsReady};
+ghost use Rattle.work_pool.specs.inner.Line.{Tells};
+ghost use Rattle.work_pool.specs.inner.Serving.{Goes, PutsNone, IsReady};
 
 use crate::desk::Desk;
 use crate::gate::Gate;

@@ -2,11 +2,11 @@
 
 ghost use Rattle.std.specs.Prelude.{◌≡◌, ◌+◌, ◌<◌, ◌≤◌, true, List, [], ◌++◌, IfOk, map, length, vec_len, vec_capacity};
 ghost use Rattle.crossbeam_queue.specs.Passes.{view};
-ghost use Rattle.work_pool.specs.Ending.{HasEnded};
+ghost use Rattle.work_pool.specs.inner.Ending.{HasEnded};
 ghost use Rattle.work_pool.specs.Fed.{AreFed, most_depth};
-ghost use Rattle.work_pool.specs.Seating.{AllGo, AreHelping, AreReady};
+ghost use Rattle.work_pool.specs.inner.Seating.{AllGo, AreHelping, AreReady};
 ghost use Rattle.work_pool.specs.Served.{AllTaken, most_workers};
-ghost use Rattle.work_pool.specs.Serving.{Goes, HasFed, IsReady};
+ghost use Rattle.work_pool.specs.inner.Serving.{Goes, HasFed, IsReady};
 
 use crate::desk::Desk;
 use crate::feed::Feed;

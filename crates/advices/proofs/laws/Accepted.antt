@@ -33,7 +33,8 @@ use Rattle.day_model.specs.Shape.{HasShape, IsOrder}
 use Rattle.day_model.specs.declared.pay.Order.{Order}
 use Rattle.day_model.specs.declared.pay.Order.TheVariants as order
 use Rattle.day_model.specs.declared.pay.Pay.{Pay}
-use Rattle.advices.specs.Messages.{AllReadBack, OrderReadsBack, ReadsBack, order_message, messages_from, order_fields, uetr_block}
+use Rattle.advices.specs.Messages.{order_message, messages_from, order_fields, uetr_block}
+use Rattle.advices.specs.inner.Messages.{AllReadBack, OrderReadsBack, ReadsBack}
 use Rattle.advices.specs.Valid.{AreAccepted, Asks, CameFrom, IsAccepted, IsNotice, IsOwnPay, NoticesAccepted}
 use Rattle.advices.proofs.laws.Credits.{credit-passes}
 use Rattle.advices.proofs.laws.Debits.{debit-passes}

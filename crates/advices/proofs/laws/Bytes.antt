@@ -26,7 +26,7 @@ use Rattle.fin_contents.specs.Writing.{ccy_amount_text}
 use Rattle.fin_contents.proofs.laws.Bytes.{and-both, and-three, comma_number-of-x, digits-of-x, letters-of-x}
 use Rattle.fin_contents.proofs.laws.Steps.{checked}
 use Rattle.advices.specs.Fields.{ours}
-use Rattle.advices.specs.Spelled.{IsPlain, IsWritableAmount}
+use Rattle.advices.specs.inner.Spelled.{IsPlain, IsWritableAmount}
 
 pub joined-plain : (front back : List ℕ) → IsPlain front → IsPlain back → IsPlain (front ++ back)
 joined-plain front back p q = list_all-append (is_in X) front back ∙ rw (p, q) refl

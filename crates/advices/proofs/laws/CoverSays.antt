@@ -14,7 +14,7 @@ use Rattle.fin_contents.specs.Plain.{reference_of, texts_of, time_of}
 use Rattle.fin_contents.proofs.laws.Steps.{read-then, told-is}
 use Rattle.fin_parties.specs.declared.party.Party.{Party}
 use Rattle.mt202cov.specs.Message.{content_test, contents_of, field_tests, mt202cov_of}
-use Rattle.mt202cov.specs.Parts.{banks_of, beneficiary_side_of, contents_in_parts, customers_of, details_of, cover_of_parts, payee_side_of, payer_side_of, sender_side_of, sequence_a_of, sequence_b_of, terms_of}
+use Rattle.mt202cov.specs.inner.Parts.{banks_of, beneficiary_side_of, contents_in_parts, customers_of, details_of, cover_of_parts, payee_side_of, payer_side_of, sender_side_of, sequence_a_of, sequence_b_of, terms_of}
 use Rattle.mt202cov.specs.Order.{order_202}
 use Rattle.mt202cov.specs.Rules.{all_rules, c68, c81}
 use Rattle.mt202cov.specs.declared.banks.Banks.{Banks}

@@ -31,7 +31,7 @@ use Rattle.advices.specs.Fields.{bank_field, copied, is_named}
 use Rattle.advices.specs.Received.{ordering}
 use Rattle.advices.specs.Cover.{cover_fields}
 use Rattle.advices.specs.Transfer.{account_bank, intermediary, ordered_amount}
-use Rattle.advices.specs.Spelled.{IsWritableAmount}
+use Rattle.advices.specs.inner.Spelled.{IsWritableAmount}
 use Rattle.advices.specs.Valid.{IsTabled}
 use Rattle.advices.proofs.laws.Banks.{bank-read, ordering-of-transfer}
 use Rattle.advices.proofs.laws.Copies.{only_from}

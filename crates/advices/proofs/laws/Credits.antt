@@ -20,7 +20,7 @@ use Rattle.mt202cov.specs.Message.{content_test as content_202, field_tests as t
 use Rattle.mt202cov.specs.Order.{order_202}
 use Rattle.mt202cov.specs.declared.message.Mt202Cov.{Mt202Cov}
 use Rattle.mt9_advice.specs.Advice.{content_test, contents_910, mt910_of, tests_910}
-use Rattle.mt9_advice.specs.Parts.{booking_of, ending_of, mt910, orderers_of, parts_910}
+use Rattle.mt9_advice.specs.inner.Parts.{booking_of, ending_of, mt910, orderers_of, parts_910}
 use Rattle.mt9_advice.proofs.laws.Parts.{contents-are-910}
 use Rattle.mt9_advice.specs.Order.{order_910}
 use Rattle.mt9_advice.specs.declared.booking.Booking.{Booking}

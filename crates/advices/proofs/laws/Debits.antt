@@ -14,7 +14,7 @@ use Rattle.fin_contents.specs.Plain.{reference_of, short_line_of}
 use Rattle.fin_contents.specs.Writing.{line_field, value_field}
 use Rattle.fin_contents.proofs.laws.Again.{reference-kept}
 use Rattle.mt9_advice.specs.Advice.{content_test, contents_900, mt900_of, tests_900}
-use Rattle.mt9_advice.specs.Parts.{booking_of, mt900, parts_900}
+use Rattle.mt9_advice.specs.inner.Parts.{booking_of, mt900, parts_900}
 use Rattle.mt9_advice.proofs.laws.Parts.{contents-are-900}
 use Rattle.mt9_advice.specs.Order.{order_900}
 use Rattle.mt9_advice.specs.declared.booking.Booking.{Booking}

@@ -26,7 +26,7 @@ use Rattle.advices.specs.Fields.{bank_field, copied, copied_all, copied_as, is_n
 use Rattle.advices.specs.Pass.{pass_fields, passed_fields}
 use Rattle.advices.specs.Received.{fields_for_52, first_fields, or_bank, ordering, sequence_a, sequence_b}
 use Rattle.advices.specs.Transfer.{account_bank, detail_fields, intermediary, is_passed_on, is_there, or_amount, ordered_amount, party_fields, taken_fields, term_fields, transfer_fields}
-use Rattle.advices.specs.Spelled.{IsReceivedWhole, IsMoved, IsPlain, IsWritableAmount}
+use Rattle.advices.specs.inner.Spelled.{IsReceivedWhole, IsMoved, IsPlain, IsWritableAmount}
 use Rattle.advices.proofs.laws.Bytes.{bic-plain, ccy_amount-plain, day-plain, joined-plain}
 
 -- ---- fields that are copied

@@ -11,7 +11,8 @@ use Rattle.fin_fields.proofs.laws.Positions.{position-here, position-later}
 use Rattle.fin_layout.specs.declared.place.Place.{Place}
 use Rattle.fin_layout.specs.Order.{fits, missing_from, places_from}
 use Rattle.fin_layout.specs.Places.{bare, may}
-use Rattle.fin_layout.specs.Segments.{IsFirst, Segment, Segments, joined, places_of}
+use Rattle.fin_layout.specs.Segments.{joined}
+use Rattle.fin_layout.specs.inner.Segments.{IsFirst, Segment, Segments, places_of}
 use Rattle.fin_layout.specs.Tests.{contents_from, tests}
 use Rattle.fin_layout.proofs.laws.FoundField.{grouped-taken}
 use Rattle.fin_layout.proofs.laws.Grouped.{grouped-places, length-places_of}

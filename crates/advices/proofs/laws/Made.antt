@@ -22,7 +22,7 @@ use Rattle.fin_contents.proofs.laws.Bytes.{and-both}
 use Rattle.fin_contents.proofs.laws.Steps.{checked, there}
 use Rattle.day_model.specs.Shape.{IsReference}
 use Rattle.advices.specs.Fields.{ours}
-use Rattle.advices.specs.Spelled.{IsPlain}
+use Rattle.advices.specs.inner.Spelled.{IsPlain}
 use Rattle.advices.proofs.laws.Bytes.{decimal-digits, ours-plain, padded-digits}
 
 -- ---- no slash

@@ -24,7 +24,7 @@ use Rattle.advices.specs.Cover.{cover_fields}
 use Rattle.advices.specs.Fields.{is_named, ours}
 use Rattle.advices.specs.Legs.{charge_of, debited_amount, leg_amount, value_of_pay}
 use Rattle.advices.specs.Received.{ordered_of, received_of}
-use Rattle.advices.specs.Spelled.{IsWritableAmount}
+use Rattle.advices.specs.inner.Spelled.{IsWritableAmount}
 use Rattle.advices.specs.Transfer.{transfer_fields}
 use Rattle.advices.specs.Valid.{CameFrom, CoverReads, IsTabled, PassReads, TransferReads, amount_32a}
 use Rattle.advices.proofs.laws.Covers.{cover-fields-pass, cover-parted}

@@ -45,7 +45,7 @@ use Rattle.advices.specs.Legs.{amount_on, charge_of, debited_amount, leg_account
 use Rattle.advices.specs.Messages.{order_fields}
 use Rattle.advices.specs.Pass.{pass_fields}
 use Rattle.advices.specs.Received.{amount_if, amount_in, minor_if, ordered_of, received_of}
-use Rattle.advices.specs.Spelled.{IsReceivedWhole, IsMoved, IsWritableAmount}
+use Rattle.advices.specs.inner.Spelled.{IsReceivedWhole, IsMoved, IsWritableAmount}
 use Rattle.advices.specs.Transfer.{transfer_fields}
 use Rattle.advices.proofs.laws.Bytes.{c-plain, ours-plain}
 use Rattle.advices.proofs.laws.Fit.{cover-fit, credit-fit, debit-fit, pass-fit, transfer-fit}

@@ -28,12 +28,12 @@ use Rattle.fin_message.specs.declared.message.Message.TheVariants as message
 use Rattle.mt103.specs.Codes.{instr_of, kind_of, operation_of}
 use Rattle.mt103.specs.Instructions.{d98, e46}
 use Rattle.mt103.specs.Message.{content_test as content_103, contents_of as contents_103, field_tests as tests_103, mt103_of}
-use Rattle.mt103.specs.Parts.{Terms as Terms103, contents_in_parts as parts_103, details_of as details_103, transfer_of_parts, parties_of as parties_103, terms_of as terms_103}
+use Rattle.mt103.specs.inner.Parts.{Terms as Terms103, contents_in_parts as parts_103, details_of as details_103, transfer_of_parts, parties_of as parties_103, terms_of as terms_103}
 use Rattle.mt103.proofs.laws.Parts.{contents-are as contents-are-103}
 use Rattle.mt103.specs.Order.{order_103}
 use Rattle.mt103.specs.declared.message.Mt103.{Mt103}
 use Rattle.mt202cov.specs.Message.{content_test as content_202, contents_of as contents_202, field_tests as tests_202, mt202cov_of}
-use Rattle.mt202cov.specs.Parts.{banks_of, contents_in_parts as parts_202, cover_of_parts, sequence_a_of, sequence_b_of, terms_of as terms_202}
+use Rattle.mt202cov.specs.inner.Parts.{banks_of, contents_in_parts as parts_202, cover_of_parts, sequence_a_of, sequence_b_of, terms_of as terms_202}
 use Rattle.mt202cov.proofs.laws.Parts.{contents-are as contents-are-202}
 use Rattle.mt202cov.specs.Order.{order_202}
 use Rattle.mt202cov.specs.Rules.{all_rules as rules_202}

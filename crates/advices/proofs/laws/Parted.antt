@@ -6,7 +6,8 @@ use Rattle.fin_fields.specs.declared.field.Field.{Field}
 use Rattle.fin_layout.specs.declared.place.Place.{Place}
 use Rattle.fin_layout.specs.Contents.{all_from}
 use Rattle.fin_layout.specs.Order.{places_from}
-use Rattle.fin_layout.specs.Segments.{joined, places_of}
+use Rattle.fin_layout.specs.Segments.{joined}
+use Rattle.fin_layout.specs.inner.Segments.{places_of}
 use Rattle.fin_layout.proofs.laws.Fine.{IsTestOf, read-none}
 use Rattle.fin_layout.proofs.laws.Grouped.{grouped-places}
 use Rattle.advices.proofs.laws.Fitted.{Fine, IsPartedInto}

@@ -8,7 +8,8 @@ use Rattle.corr_ids.specs.Bic.{IsBic}
 use Rattle.ref_tables.specs.Seen.{Tables, has_head}
 use Rattle.fin_fields.specs.declared.field.Field.{Field}
 use Rattle.fin_layout.specs.Order.{missing_from, place_from, places_from}
-use Rattle.fin_layout.specs.Segments.{joined, places_of}
+use Rattle.fin_layout.specs.Segments.{joined}
+use Rattle.fin_layout.specs.inner.Segments.{places_of}
 use Rattle.fin_layout.proofs.laws.FoundField.{grouped-taken}
 use Rattle.fin_layout.proofs.laws.Grouped.{grouped-places, length-places_of}
 use Rattle.fin_parties.specs.declared.party.Party.{Party}

@@ -7,7 +7,7 @@ use Rattle.corr_text.specs.declared.fault.Code.{Code}
 use Rattle.fin_fields.specs.declared.field.Field.{Field}
 use Rattle.fin_layout.specs.declared.place.Place.{Place}
 use Rattle.fin_layout.specs.Order.{free_after}
-use Rattle.fin_layout.specs.Segments.{IsFirst, Segment, Segments}
+use Rattle.fin_layout.specs.inner.Segments.{IsFirst, Segment, Segments}
 use Rattle.fin_layout.specs.Tests.{tests}
 use Rattle.fin_layout.proofs.laws.Fine.{IsTestOf}
 use Rattle.fin_contents.specs.Writing.{some_field}

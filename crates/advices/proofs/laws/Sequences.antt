@@ -12,7 +12,7 @@ use Rattle.fin_fields.proofs.laws.Positions.{position-here, position-later}
 use Rattle.fin_layout.specs.declared.place.Place.{Place}
 use Rattle.fin_layout.specs.Naming.{fault_at}
 use Rattle.fin_layout.specs.Order.{field_in, fits, free_after, place_from, places_from}
-use Rattle.fin_layout.specs.Segments.{places_of}
+use Rattle.fin_layout.specs.inner.Segments.{places_of}
 use Rattle.fin_layout.specs.Tests.{contents_from}
 use Rattle.fin_layout.proofs.laws.Fine.{field-nil, first-none, map-none}
 use Rattle.fin_layout.proofs.laws.FoundField.{field-here, field-later}

@@ -16,7 +16,7 @@ use Rattle.mt103.specs.Codes.{charge_of, operation_of}
 use Rattle.mt103.specs.Message.{content_test, field_tests}
 use Rattle.mt103.specs.Order.{order_103}
 use Rattle.advices.specs.Fields.{copied, is_named}
-use Rattle.advices.specs.Spelled.{IsWritableAmount}
+use Rattle.advices.specs.inner.Spelled.{IsWritableAmount}
 use Rattle.advices.specs.Transfer.{is_there, or_amount, ordered_amount}
 use Rattle.advices.specs.Valid.{IsTabled}
 use Rattle.advices.proofs.laws.Copies.{SaysNamed, each-says, found-each}

@@ -30,7 +30,7 @@ use Rattle.advices.specs.declared.received.Received.{Received}
 use Rattle.advices.specs.Fields.{bank_field, copied, copied_all, is_named}
 use Rattle.advices.specs.Received.{ordering}
 use Rattle.advices.specs.Transfer.{account_bank, passed_instructions, intermediary, is_passed_on, is_there, ordered_amount, taken_fields, tells_account_bank, tells_intermediary, transfer_fields}
-use Rattle.advices.specs.Spelled.{IsWritableAmount}
+use Rattle.advices.specs.inner.Spelled.{IsWritableAmount}
 use Rattle.advices.specs.Valid.{IsTabled}
 use Rattle.advices.proofs.laws.Banks.{bank-read, ordering-of-transfer}
 use Rattle.advices.proofs.laws.Copies.{SaysNamed, each-says, only_from}

@@ -16,7 +16,7 @@ use Rattle.ref_tables.specs.Seen.{Tables}
 use Rattle.fin_contents.specs.declared.value.Value.{Value}
 use Rattle.fin_contents.specs.Money.{ccy_amount_in, ccy_amount_of, is_ccy_amount, is_dated_amount, value_in, value_of}
 use Rattle.fin_contents.specs.Writing.{ccy_amount_field, ccy_amount_text, value_field}
-use Rattle.advices.specs.Spelled.{IsMoved, IsWritableAmount}
+use Rattle.advices.specs.inner.Spelled.{IsMoved, IsWritableAmount}
 use Rattle.advices.specs.Valid.{IsTabled}
 use Rattle.advices.proofs.laws.Bytes.{amount-plain, amount-some, day-digits}
 

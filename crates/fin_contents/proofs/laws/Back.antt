@@ -7,7 +7,8 @@ use Rattle.fin_fields.specs.declared.field.Field.{Field}
 use Rattle.fin_layout.specs.declared.place.Place.{Place}
 use Rattle.fin_layout.specs.Contents.{all_from, in_option, in_place}
 use Rattle.fin_layout.specs.Order.{field_in}
-use Rattle.fin_layout.specs.Segments.{joined, places_of}
+use Rattle.fin_layout.specs.Segments.{joined}
+use Rattle.fin_layout.specs.inner.Segments.{places_of}
 use Rattle.fin_layout.proofs.laws.FoundField.{grouped-field, grouped-none}
 use Rattle.fin_layout.proofs.laws.ReadGroups.{ReadsAll, grouped-all}
 use Rattle.fin_contents.specs.Writing.{lines_field, lines_fields, some_field}

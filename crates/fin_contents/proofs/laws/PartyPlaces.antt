@@ -5,7 +5,7 @@ use Rattle.ref_tables.specs.Seen.{Tables}
 use Rattle.fin_fields.specs.declared.field.Field.{Field}
 use Rattle.fin_layout.specs.declared.place.Place.{Place}
 use Rattle.fin_layout.specs.Contents.{in_option, in_place}
-use Rattle.fin_layout.specs.Segments.{IsFirst, Segment}
+use Rattle.fin_layout.specs.inner.Segments.{IsFirst, Segment}
 use Rattle.fin_parties.specs.Writing.{party_field}
 use Rattle.fin_parties.specs.declared.party.Party.{Party}
 use Rattle.fin_contents.specs.Parties.{known_party_of}

@@ -11,7 +11,8 @@ use Rattle.fin_fields.specs.Writing.{IsField}
 use Rattle.fin_fields.proofs.laws.Positions.{position-here, position-later}
 use Rattle.fin_layout.specs.declared.place.Place.{Place}
 use Rattle.fin_layout.specs.Order.{fits, free_after, place_from}
-use Rattle.fin_layout.specs.Segments.{IsFirst, Segment, joined}
+use Rattle.fin_layout.specs.Segments.{joined}
+use Rattle.fin_layout.specs.inner.Segments.{IsFirst, Segment}
 use Rattle.fin_parties.specs.Writing.{party_field}
 use Rattle.fin_parties.specs.declared.party.Party.{Party}
 use Rattle.fin_parties.proofs.laws.Again.{letter-kept, party-fit}

@@ -6,7 +6,8 @@ use Rattle.std.proofs.lemmas.Bool.{or_parts}
 use Rattle.corr_text.specs.Sets.{is_in, is_x_byte}
 use Rattle.corr_text.specs.declared.set.Set.TheVariants.{X}
 use Rattle.fin_fields.specs.Faults.{has_other_byte}
-use Rattle.fin_fields.specs.Patterns.{is_run, is_short}
+use Rattle.fin_fields.specs.Patterns.{is_run}
+use Rattle.fin_fields.specs.inner.Patterns.{is_short}
 
 -- so has the first byte, and so have the bytes after it
 pub each-of-x : (b : ℕ) (bs : List ℕ) → has_other_byte (b ∷ bs) ≡ false → (not (is_x_byte b) ≡ false) × (has_other_byte bs ≡ false)

@@ -3,8 +3,9 @@ use Rattle.std.proofs.Common.{◌≡◌, ◌≤◌, inl, inr, ℕ, zero, suc, �
 use Rattle.std.proofs.lemmas.Bool.Decides.{nat_tests}
 use Rattle.corr_text.specs.Braces.{depth_after}
 use Rattle.fin_frame.specs.File.{lead, is_gap_byte, most_bytes}
-use Rattle.fin_frame.specs.Machine.{State, to, fails, gives, begins, held_bytes, grows, within, resumes, moves, stage_between, next_close, next_at, next, at_start, run}
-use Rattle.fin_frame.specs.Shown.{HasBegun, HasNoColon, HaveBegun, is_colon}
+use Rattle.fin_frame.specs.inner.Machine.{State, to, fails, gives, begins, held_bytes, grows, within, resumes, moves, stage_between, next_close, next_at, next, at_start, run}
+use Rattle.fin_frame.specs.Shown.{HasBegun, HaveBegun}
+use Rattle.fin_frame.specs.inner.Shown.{HasNoColon, is_colon}
 use Rattle.fin_frame.specs.declared.fault.FrameFault.{FrameFault}
 use Rattle.fin_frame.specs.declared.fault.FrameFault.TheVariants.{Stray, TooLong}
 use Rattle.fin_frame.specs.declared.stage.Stage.{Stage}

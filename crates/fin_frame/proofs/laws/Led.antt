@@ -9,7 +9,7 @@ use Rattle.fin_frame.specs.File.{left_open, lead, agrees, is_blank, is_gap_byte,
 use Rattle.fin_frame.specs.File.IsMessageTo.{head, next as joined}
 use Rattle.fin_frame.specs.File.IsFileOf.{start as file_start, more as file_more}
 use Rattle.fin_frame.specs.Shown.{is_marked, no_more, stands_apart}
-use Rattle.fin_frame.specs.Machine.{State, at_start, to, fails, gives, held_bytes, landed, grows, within, next_close, next, run, moves, stage_between}
+use Rattle.fin_frame.specs.inner.Machine.{State, at_start, to, fails, gives, held_bytes, landed, grows, within, next_close, next, run, moves, stage_between}
 use Rattle.fin_frame.specs.declared.fault.FrameFault.TheVariants.{TooLong}
 use Rattle.fin_frame.specs.declared.stage.Stage.TheVariants.{Between, Within, After}
 use Rattle.fin_frame.proofs.laws.Running.{run-append, run-failed, run-within, run-resumed, within-full, within-room, same-test, other-test, state-same, close-gap}

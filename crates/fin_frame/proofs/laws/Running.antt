@@ -4,7 +4,7 @@ use Rattle.std.proofs.lemmas.List.{append-nil, length-take-le}
 use Rattle.std.proofs.lemmas.Bool.Decides.{nat_tests}
 use Rattle.corr_text.specs.Braces.{depth_after}
 use Rattle.fin_frame.specs.File.{left_open, lead, is_gap_byte, most_bytes}
-use Rattle.fin_frame.specs.Machine.{State, to, fails, gives, begins, held_bytes, landed, grows, within, resumes, next_opening, next_close, next_after, next_at, next, run, HasTaken, HasTakenByte}
+use Rattle.fin_frame.specs.inner.Machine.{State, to, fails, gives, begins, held_bytes, landed, grows, within, resumes, next_opening, next_close, next_after, next_at, next, run, HasTaken, HasTakenByte}
 use Rattle.fin_frame.specs.declared.fault.FrameFault.{FrameFault}
 use Rattle.fin_frame.specs.declared.fault.FrameFault.TheVariants.{Stray, TooLong, Unbalanced, Memory}
 use Rattle.fin_frame.specs.declared.stage.Stage.{Stage}

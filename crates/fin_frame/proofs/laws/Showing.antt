@@ -8,7 +8,7 @@ use Rattle.fin_frame.specs.Shown.Shows.{stray as shows_stray, long as shows_long
 use Rattle.fin_frame.specs.Shown.EndsWithin.{inside as ends_inside, after as ends_after, apart as ends_apart}
 use Rattle.fin_frame.specs.Shown.ShowWhole.{none as whole_none, some as whole_some}
 use Rattle.fin_frame.specs.Shown.HasBegun.{begun as has_begun}
-use Rattle.fin_frame.specs.Machine.{State, at_start, to, fails, with_open, next_opening, next_close, stage_between, moves, next, run, unbalanced_at}
+use Rattle.fin_frame.specs.inner.Machine.{State, at_start, to, fails, with_open, next_opening, next_close, stage_between, moves, next, run, unbalanced_at}
 use Rattle.fin_frame.specs.declared.fault.FrameFault.{FrameFault}
 use Rattle.fin_frame.specs.declared.fault.FrameFault.TheVariants.{Stray, TooLong}
 use Rattle.fin_frame.specs.declared.stage.Stage.TheVariants.{Opening, After}

@@ -11,7 +11,7 @@ use Rattle.fin_frame.specs.Shown.{is_marked, no_more, stands_apart, cannot_follo
 use Rattle.fin_frame.specs.Shown.Shows.{stray as shows_stray, long as shows_long}
 use Rattle.fin_frame.specs.Shown.ShowWhole.{none as whole_none, some as whole_some}
 use Rattle.fin_frame.specs.Shown.HasBegun.{begun as has_begun}
-use Rattle.fin_frame.specs.Machine.{State, begins}
+use Rattle.fin_frame.specs.inner.Machine.{State, begins}
 use Rattle.fin_frame.specs.declared.fault.FrameFault.{FrameFault}
 use Rattle.fin_frame.specs.declared.fault.FrameFault.TheVariants.{Stray, TooLong}
 use Rattle.fin_frame.specs.declared.stage.Stage.TheVariants.{Opening, After}

@@ -10,7 +10,8 @@ use Rattle.fin_layout.specs.declared.place.Place.{Place}
 use Rattle.fin_layout.specs.Naming.{fault_at, absent}
 use Rattle.fin_layout.specs.Order.{field_in, is_missing, missing_from, places_from}
 use Rattle.fin_layout.specs.Contents.{all_from, in_option, in_place}
-use Rattle.fin_layout.specs.Reading.{Fails, Tells}
+use Rattle.fin_layout.specs.Reading.{Tells}
+use Rattle.fin_layout.specs.inner.Reading.{Fails}
 use Rattle.fin_layout.specs.Tests.{contents_from, tests}
 use Rattle.fin_layout.specs.declared.fault.MtFault.{MtFault}
 use Rattle.fin_layout.specs.declared.fault.MtFault.TheVariants as faults

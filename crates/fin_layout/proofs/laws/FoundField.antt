@@ -6,7 +6,8 @@ use Rattle.std.specs.List.{list_any}
 use Rattle.fin_fields.specs.declared.field.Field.{Field}
 use Rattle.fin_fields.proofs.laws.Positions.{position-here, position-later}
 use Rattle.fin_layout.specs.Order.{field_in}
-use Rattle.fin_layout.specs.Segments.{places_of, joined}
+use Rattle.fin_layout.specs.Segments.{joined}
+use Rattle.fin_layout.specs.inner.Segments.{places_of}
 
 slice_get-later : {X : Type 0} (x : X) (xs : List X) (i : ℕ) → slice_get (x ∷ xs) (i + 1) ≡ slice_get xs i
 slice_get-later x xs i = rw add-one refl

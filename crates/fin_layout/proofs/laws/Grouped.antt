@@ -9,7 +9,8 @@ use Rattle.corr_text.specs.First.{first_of}
 use Rattle.fin_fields.specs.declared.field.Field.{Field}
 use Rattle.fin_layout.specs.declared.place.Place.{Place}
 use Rattle.fin_layout.specs.Order.{fits, free_after, missing_from, place_from, places_from}
-use Rattle.fin_layout.specs.Segments.{IsFirst, Segment, Segments, places_of, joined}
+use Rattle.fin_layout.specs.Segments.{joined}
+use Rattle.fin_layout.specs.inner.Segments.{IsFirst, Segment, Segments, places_of}
 use Rattle.fin_layout.specs.Tests.{structure_tests}
 
 -- ---- the first place that passes

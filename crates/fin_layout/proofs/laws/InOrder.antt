@@ -35,9 +35,11 @@ use Rattle.corr_text.specs.declared.fault.Fault.{Fault}
 use Rattle.fin_fields.specs.declared.field.Field.{Field}
 use Rattle.fin_layout.specs.declared.place.Place.{Place}
 use Rattle.fin_layout.specs.Naming.{absent, fault_at}
-use Rattle.fin_layout.specs.Order.{field_in, fits, free_after, missing_from, place_from, places_from, Rising}
+use Rattle.fin_layout.specs.Order.{field_in, fits, free_after, missing_from, place_from, places_from}
+use Rattle.fin_layout.specs.inner.Order.{Rising}
 use Rattle.fin_layout.specs.Contents.{all_from, in_option, in_place}
-use Rattle.fin_layout.specs.Reading.{Fails, Tells}
+use Rattle.fin_layout.specs.Reading.{Tells}
+use Rattle.fin_layout.specs.inner.Reading.{Fails}
 use Rattle.fin_layout.specs.declared.fault.MtFault.{MtFault}
 use Rattle.fin_layout.specs.declared.fault.MtFault.TheVariants as faults
 use Rattle.fin_layout.specs.Tests.{contents_from, misplaced, lacking, passed, structure_tests, tests}

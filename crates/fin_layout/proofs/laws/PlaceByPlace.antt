@@ -3,7 +3,7 @@ use Rattle.std.proofs.Common.{ℕ, ◌+◌, ◌≤◌, List, [], ◌∷◌, leng
 use Rattle.fin_fields.specs.declared.field.Field.{Field}
 use Rattle.fin_layout.specs.declared.place.Place.{Place}
 use Rattle.fin_layout.specs.Order.{free_after}
-use Rattle.fin_layout.specs.Segments.{Segment, Segments}
+use Rattle.fin_layout.specs.inner.Segments.{Segment, Segments}
 
 -- the groups of the places from j on, in turn, where the places below `low` are surely taken or passed
 pub record Placed (order : List Place) (low j : ℕ) (segs : List (List Field)) : Type 0 where

@@ -7,7 +7,8 @@ use Rattle.corr_text.specs.declared.fault.Code.{Code}
 use Rattle.corr_text.specs.declared.fault.Fault.{Fault}
 use Rattle.fin_fields.specs.declared.field.Field.{Field}
 use Rattle.fin_layout.specs.Contents.{all_from}
-use Rattle.fin_layout.specs.Segments.{places_of, joined}
+use Rattle.fin_layout.specs.Segments.{joined}
+use Rattle.fin_layout.specs.inner.Segments.{places_of}
 use Rattle.fin_layout.proofs.InTurn.{with_front, with_none}
 
 -- each of these fields is read as the value beside it

@@ -13,7 +13,8 @@ use Rattle.jrn_codec.specs.Record.{entry_bytes}
 use Rattle.jrn_book.specs.Answers.{Answer, AnswerShows, HasRoomFor, IsFull, history_after, need_of}
 use Rattle.jrn_book.specs.declared.answer.Committed.TheVariants.{New, Kept}
 use Rattle.jrn_book.specs.declared.answer.CommitFault.TheVariants.{Conflict, Full, DiskFault, Broken, Memory}
-use Rattle.jrn_book.specs.Batches.{AnswersInTurn, Stage, entered_of, gate_of, history_with, is_tried, lacks_room, stage_after}
+use Rattle.jrn_book.specs.Batches.{AnswersInTurn, Stage, entered_of, gate_of, history_with, lacks_room, stage_after}
+use Rattle.jrn_book.specs.inner.Batches.{is_tried}
 use Rattle.jrn_book.specs.Journal.{file_of}
 use Rattle.jrn_book.proofs.Chains.{both}
 use Rattle.jrn_book.proofs.laws.Items.{by_later}

@@ -13,7 +13,7 @@ use Rattle.jrn_codec.specs.Record.{IsEntry, entry_bytes, entry_bytes_1}
 use Rattle.jrn_codec.specs.Header.{IsHead, head_bytes, head_bytes_1, headed_bytes, version, version_1}
 use Rattle.jrn_codec.specs.Change.{IsWhat, NumberFits, change_bytes}
 use Rattle.jrn_codec.specs.Items.{IsItem, item_bytes}
-use Rattle.jrn_codec.specs.RecordReading.{entry_read}
+use Rattle.jrn_codec.specs.inner.RecordReading.{entry_read}
 use Rattle.jrn_codec.proofs.Changes as changes
 use Rattle.jrn_codec.proofs.Entries as entries
 use Rattle.jrn_codec.proofs.Heads as heads

@@ -18,7 +18,7 @@ use Rattle.fin_contents.proofs.laws.Grouped.{eight-apart, six-apart}
 use Rattle.mt103.specs.Codes.{charge_of, instr_of, kind_of, operation_of}
 use Rattle.mt103.specs.Message.{contents_of}
 use Rattle.mt103.specs.Order.{at_account_bank, at_info, at_ordering, at_regulatory, at_taken, order_103}
-use Rattle.mt103.specs.Parts.{banks_into, closing_into, contents_in_parts, contents_into, details_into, details_of, info_of, transfer_of_parts, parties_into, parties_of, terms_into, terms_of, with_banks, with_closing, with_details, with_info, with_parties, with_payee, with_payer, with_terms, Details, Parties, Terms}
+use Rattle.mt103.specs.inner.Parts.{banks_into, closing_into, contents_in_parts, contents_into, details_into, details_of, info_of, transfer_of_parts, parties_into, parties_of, terms_into, terms_of, with_banks, with_closing, with_details, with_info, with_parties, with_payee, with_payer, with_terms, Details, Parties, Terms}
 use Rattle.corr_text.specs.declared.fault.Fault.{Fault}
 use Rattle.mt103.specs.declared.instruction.Instr.{Instr}
 use Rattle.mt103.specs.declared.message.Mt103.{Mt103}

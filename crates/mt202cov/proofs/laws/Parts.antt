@@ -14,7 +14,7 @@ use Rattle.fin_contents.specs.declared.value.Value.{Value}
 use Rattle.fin_contents.proofs.laws.Grouped.{alike, four-apart, steps-joined, three-apart}
 use Rattle.mt202cov.specs.Message.{contents_of}
 use Rattle.mt202cov.specs.Order.{order_202}
-use Rattle.mt202cov.specs.Parts.{banks_of, beneficiary_side_of, contents_in_parts, customers_of, details_of, cover_of_parts, payee_side_of, payer_side_of, sender_side_of, sequence_a_of, sequence_b_of, terms_of}
+use Rattle.mt202cov.specs.inner.Parts.{banks_of, beneficiary_side_of, contents_in_parts, customers_of, details_of, cover_of_parts, payee_side_of, payer_side_of, sender_side_of, sequence_a_of, sequence_b_of, terms_of}
 use Rattle.mt202cov.specs.declared.banks.Banks.{Banks}
 use Rattle.mt202cov.specs.declared.banks.BeneficiarySide.{BeneficiarySide}
 use Rattle.mt202cov.specs.declared.banks.SenderSide.{SenderSide}

@@ -8,7 +8,8 @@ use Rattle.fin_fields.specs.declared.field.Field.{Field}
 use Rattle.fin_fields.specs.Writing.{IsField}
 use Rattle.fin_contents.specs.Writing.{IsReadable}
 use Rattle.mt950.specs.Page.{mt950_of, tests_950}
-use Rattle.mt950.specs.Writing.{IsContinued, IsPage, fields_950}
+use Rattle.mt950.specs.Writing.{fields_950}
+use Rattle.mt950.specs.inner.Writing.{IsContinued, IsPage}
 use Rattle.mt950.specs.declared.page.Page950.{Page950}
 use Rattle.mt950.proofs.Fit.{fit-950, page-fits}
 use Rattle.mt950.proofs.Read.{page-is, passes-950, readable-is}

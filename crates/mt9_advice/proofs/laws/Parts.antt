@@ -12,7 +12,7 @@ use Rattle.fin_contents.specs.declared.value.Value.{Value}
 use Rattle.fin_contents.proofs.laws.Grouped.{alike, five-apart, steps-joined}
 use Rattle.mt9_advice.specs.Advice.{contents_900, contents_910, stamp_of}
 use Rattle.mt9_advice.specs.Order.{order_900, order_910}
-use Rattle.mt9_advice.specs.Parts.{booking_of, ending_of, mt900, mt910, orderers_of, parts_900, parts_910}
+use Rattle.mt9_advice.specs.inner.Parts.{booking_of, ending_of, mt900, mt910, orderers_of, parts_900, parts_910}
 use Rattle.mt9_advice.specs.declared.booking.Booking.{Booking}
 use Rattle.mt9_advice.specs.declared.credit.Ending.{Ending}
 use Rattle.mt9_advice.specs.declared.credit.Orderers.{Orderers}

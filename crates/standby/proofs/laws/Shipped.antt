@@ -5,7 +5,8 @@ use Rattle.std.proofs.lemmas.Bool.{cases_eq, cond-true, eq-eqb, lt-ltb, ne_eqb}
 use Rattle.std.proofs.lemmas.List.Elements.{All-head, All-tail}
 use Rattle.std.proofs.lemmas.Option.{get_or_from_slice_get, none-some, same_Some, slice_get_past, slice_get_within}
 use Rattle.standby.specs.declared.packet.Packet.{Packet}
-use Rattle.standby.specs.Shipping.{AreSentBy, IsFrontOf, IsSentBy, ShippedIsFront, nth, shipped, taken_in}
+use Rattle.standby.specs.Shipping.{AreSentBy, IsFrontOf, IsSentBy, nth, shipped, taken_in}
+use Rattle.standby.specs.inner.Shipping.{ShippedIsFront}
 
 -- ---- fronts
 

@@ -31,7 +31,8 @@ use Rattle.day_model.specs.declared.entry.Entry.{Entry}
 use Rattle.statement.specs.Lines.{lines_on}
 use Rattle.statement.specs.Pages.{page_at, pages_for, pages_from, statement_of}
 use Rattle.statement.specs.Seen.{SeenBook}
-use Rattle.statement.specs.Valid.{PagesAreAccepted, TablesKnow, IsAcceptedAs, IsPrintable, PageReadsBack}
+use Rattle.statement.specs.Valid.{PagesAreAccepted, TablesKnow, IsAcceptedAs}
+use Rattle.statement.specs.inner.Valid.{IsPrintable, PageReadsBack}
 use Rattle.statement.proofs.laws.Readable.{page-written}
 
 -- ---- the verdict on a page

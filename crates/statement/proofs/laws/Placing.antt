@@ -8,7 +8,8 @@ use Rattle.day_model.specs.Chart.{Chart}
 use Rattle.day_model.specs.declared.entry.Entry.{Entry}
 use Rattle.day_model.specs.declared.pay.Leg.{Leg}
 use Rattle.statement.specs.Legs.{legs_on}
-use Rattle.statement.specs.Lines.{Placed, PlacesFrom, entry_line, is_return, lines_from, lines_on}
+use Rattle.statement.specs.Lines.{Placed, entry_line, is_return, lines_from, lines_on}
+use Rattle.statement.specs.inner.Lines.{PlacesFrom}
 use Rattle.statement.specs.Seen.{IsFront}
 use Rattle.statement.proofs.laws.Fronts.{front-fits}
 use Rattle.statement.proofs.Walking.{OneLeg, one-leg}

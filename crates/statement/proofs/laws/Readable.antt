@@ -23,12 +23,13 @@ use Rattle.day_model.specs.declared.account.Account.{Account}
 use Rattle.day_model.specs.declared.entry.Entry.{Entry}
 use Rattle.day_model.proofs.laws.Fitting.{listed_account}
 use Rattle.mt950.specs.Page.{mt950_of}
-use Rattle.mt950.specs.Writing.{IsBalance, IsContinued, IsWritableLine, IsPage}
+use Rattle.mt950.specs.Writing.{IsBalance, IsWritableLine}
+use Rattle.mt950.specs.inner.Writing.{IsContinued, IsPage}
 use Rattle.mt950.proofs.laws.Pages.{page-given}
 use Rattle.statement.specs.Lines.{Placed, is_return, lines_on}
 use Rattle.statement.specs.Pages.{carried, day_before, lines_of_page, page_at, pages_for}
 use Rattle.statement.specs.Seen.{SeenBook}
-use Rattle.statement.specs.Valid.{IsPrintable}
+use Rattle.statement.specs.inner.Valid.{IsPrintable}
 use Rattle.statement.proofs.Fine.{IsFine, IsFit, abs-small, after-small, entry-fit, lines-few, lines-fine}
 use Rattle.statement.proofs.laws.Fronts.{front-fits, front-rules}
 use Rattle.statement.proofs.Walking.{one-leg}

@@ -1,5 +1,6 @@
 use Rattle.std.proofs.Common.{◌≡◌, take}
-use Rattle.advices.specs.Messages.{AllReadBack, messages_from}
+use Rattle.advices.specs.Messages.{messages_from}
+use Rattle.advices.specs.inner.Messages.{AllReadBack}
 use Rattle.advices.proofs.entry.messages.Given as goal
 
 -- the messages so far, how many they are, and that each is read back

@@ -1,5 +1,5 @@
 use Rattle.std.proofs.Common.{◌+◌, [], length}
-use Rattle.front_word.specs.Blank.{blank_entry}
+use Rattle.front_word.specs.inner.Blank.{blank_entry}
 use Rattle.calls_shared.proofs.fronts.two_are_published.Given as goal
 
 abbrev pub ghost-new : goal.ghost-new

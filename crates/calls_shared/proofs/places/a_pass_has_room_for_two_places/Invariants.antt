@@ -1,5 +1,5 @@
 use Rattle.std.proofs.Common.{[]}
-use Rattle.front_word.specs.Blank.{blank_entry}
+use Rattle.front_word.specs.inner.Blank.{blank_entry}
 use Rattle.calls_shared.proofs.places.a_pass_has_room_for_two_places.Given as goal
 
 abbrev pub ghost-new : goal.ghost-new

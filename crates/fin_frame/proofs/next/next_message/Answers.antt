@@ -1,7 +1,7 @@
 use Rattle.std.proofs.Common.{◌<◌, ◌-◌, length, take, drop, sym, ap, ◌∙◌, subst, arith}
 use Rattle.std.proofs.lemmas.List.{take_rest}
 use Rattle.std.proofs.lemmas.Bool.Decides.{nat_tests}
-use Rattle.fin_frame.specs.Next.{AreFaulty}
+use Rattle.fin_frame.specs.inner.Next.{AreFaulty}
 use Rattle.fin_frame.specs.Shown.{is_over}
 use Rattle.fin_frame.proofs.PieceFile.{apart-faulty, after-faulty, ends-faulty, over-faulty}
 use Rattle.fin_frame.proofs.next.next_message.Goals as goal

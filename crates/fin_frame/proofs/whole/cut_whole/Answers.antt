@@ -1,7 +1,7 @@
 use Rattle.std.proofs.Common.{◌≡◌, ◌+◌, ◌≤◌, ◌<◌, ◌++◌, ◌∷◌, [], length, false, refl, sym, ap, ◌∙◌, subst, arith, length-append}
 use Rattle.std.proofs.lemmas.Bool.Decides.{nat_tests}
 use Rattle.fin_frame.specs.File.{IsMessage}
-use Rattle.fin_frame.specs.Whole.{has_group}
+use Rattle.fin_frame.specs.inner.Whole.{has_group}
 use Rattle.fin_frame.proofs.WholeFile.{HasCome, come-first, come-on, come-lost, come-unwhole, come-more, message-some}
 use Rattle.fin_frame.proofs.whole.cut_whole.Goals as goal
 

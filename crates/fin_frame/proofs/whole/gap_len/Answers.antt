@@ -1,6 +1,6 @@
 use Rattle.std.proofs.Common.{◌≡◌, take, get_or, Some, arith, sym, ap, ◌∙◌, subst}
 use Rattle.std.proofs.lemmas.List.{take_more}
-use Rattle.fin_frame.specs.Machine.{stage_between}
+use Rattle.fin_frame.specs.inner.Machine.{stage_between}
 use Rattle.fin_frame.specs.declared.stage.Stage.TheVariants.{Between}
 use Rattle.fin_frame.proofs.WholeFile.{EndsGap, gap-none, gap-on}
 use Rattle.fin_frame.proofs.whole.gap_len.Goals as goal

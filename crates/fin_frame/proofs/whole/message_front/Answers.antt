@@ -2,7 +2,7 @@ use Rattle.std.proofs.Common.{◌≡◌, ◌+◌, ◌-◌, ◌++◌, true, lengt
 use Rattle.std.proofs.Math.Seq.{take-add}
 use Rattle.std.proofs.lemmas.List.{length-take-le, take-append-drop, take_rest}
 use Rattle.fin_frame.specs.File.{IsMessageTo, IsMessage}
-use Rattle.fin_frame.specs.Whole.{has_group, EndsOpen, RunsOver}
+use Rattle.fin_frame.specs.inner.Whole.{has_group, EndsOpen, RunsOver}
 use Rattle.fin_frame.proofs.WholeFile.{first-group, first-over, first-ends, next-group, next-over, next-ends, whole-over}
 use Rattle.fin_frame.proofs.whole.message_front.Goals as goal
 use Rattle.fin_frame.proofs.whole.message_front.Goals.{else-bytes-gt-MOST_BYTES-2-via-then-bytes-gt-MOST_BYTES-2+else-not-is_part, else-bytes-gt-MOST_BYTES-2-via-else-bytes-gt-MOST_BYTES-2}

@@ -1,5 +1,5 @@
 use Rattle.std.proofs.Common.{subst, sym, ◌∙◌}
-use Rattle.fin_layout.specs.Order.{Rising}
+use Rattle.fin_layout.specs.inner.Order.{Rising}
 use Rattle.fin_layout.proofs.laws.InOrder.{places-rise}
 use Rattle.fin_layout.proofs.structure.fill_structure.Goals as goal
 

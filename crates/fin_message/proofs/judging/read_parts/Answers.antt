@@ -1,7 +1,7 @@
 use Rattle.std.proofs.Common.{◌≡◌, None, subst}
 use Rattle.corr_text.specs.Answers.{left_in}
 use Rattle.corr_text.specs.First.{first_of}
-use Rattle.fin_message.specs.Filling.{with_text}
+use Rattle.fin_message.specs.inner.Filling.{with_text}
 use Rattle.fin_message.specs.Heading.{heading_tests}
 use Rattle.fin_message.specs.Verdict.{line_test, message_in, message_of}
 use Rattle.fin_message.proofs.Passed.{passed_on}

@@ -3,7 +3,8 @@ use Rattle.corr_ids.specs.declared.envelope.Envelope.{Envelope}
 use Rattle.fin_fields.specs.Fields.{fields_of}
 use Rattle.fin_fields.specs.declared.field.Field.{Field}
 use Rattle.fin_layout.specs.Reading.{Fills}
-use Rattle.fin_message.specs.Verdict.{ruled_of, transfer_in}
+use Rattle.fin_message.specs.Verdict.{transfer_in}
+use Rattle.fin_message.specs.inner.Verdict.{ruled_of}
 use Rattle.fin_message.specs.declared.message.Message.TheVariants.{Transfer}
 use Rattle.fin_message.proofs.Ruled.{carries}
 use Rattle.fin_message.proofs.transfer.read_transfer.Goals as goal

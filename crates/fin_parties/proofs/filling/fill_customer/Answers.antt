@@ -1,5 +1,5 @@
 use Rattle.std.proofs.Common.{sym}
-use Rattle.fin_parties.specs.Parts.{parts_in}
+use Rattle.fin_parties.specs.inner.Parts.{parts_in}
 use Rattle.fin_parties.specs.declared.opening.Opening.TheVariants.{AccountLine}
 use Rattle.fin_parties.proofs.OfX.{rest-of-parts}
 use Rattle.fin_parties.proofs.filling.fill_customer.Goals as goal

@@ -5,7 +5,7 @@ use Rattle.day_model.specs.declared.entry.Entry.{Entry}
 use Rattle.jrn_file.specs.File.{IsSettled, disk_of}
 use Rattle.jrn_file.specs.Journal.{IsBeforeOrAll}
 use Rattle.jrn_codec.specs.Record.{IsEntry, entry_bytes}
-use Rattle.jrn_book.specs.Drafting.{gated_records, records_of}
+use Rattle.jrn_book.specs.inner.Drafting.{gated_records, records_of}
 use Rattle.jrn_book.proofs.Gated.{are_frames, first_of_some}
 use Rattle.jrn_book.proofs.batching.append_all.Goals as goal
 

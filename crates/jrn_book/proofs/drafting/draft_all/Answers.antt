@@ -4,7 +4,7 @@ use Rattle.day_model.specs.declared.pay.Pay.{Pay}
 use Rattle.day_model.specs.Fit.{FitsAccounts}
 use Rattle.day_model.specs.Shape.{HasShape}
 use Rattle.jrn_book.specs.Answers.{Answer}
-use Rattle.jrn_book.specs.Drafting.{rooms_for}
+use Rattle.jrn_book.specs.inner.Drafting.{rooms_for}
 use Rattle.jrn_book.proofs.Drafted.{IsDrafting, at_seam, drafts_begin, drafts_next, left_next, rooms_within}
 use Rattle.jrn_book.proofs.drafting.draft_all.Goals as goal
 

@@ -19,8 +19,8 @@ use Rattle.jrn_codec.specs.Record.{entry_bytes}
 use Rattle.jrn_book.specs.Answers.{Answer, AnswerShows, IsFull, need_of}
 use Rattle.jrn_book.specs.declared.answer.CommitFault.{CommitFault}
 use Rattle.jrn_book.specs.Batches.{gate_of}
-use Rattle.jrn_book.specs.Drafting.{IsDrafted}
-use Rattle.jrn_book.specs.Index.{place_in}
+use Rattle.jrn_book.specs.inner.Drafting.{IsDrafted}
+use Rattle.jrn_book.specs.inner.Index.{place_in}
 use Rattle.jrn_book.specs.Journal.{file_of}
 use Rattle.jrn_book.proofs.Drafted.{draft_legal, draft_more, end_is, end_small, latest_all}
 use Rattle.jrn_book.proofs.Entering.{next_new, place_of}

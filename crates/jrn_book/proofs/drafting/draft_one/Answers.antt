@@ -3,7 +3,7 @@ use Rattle.day_model.specs.declared.entry.Entry.{Entry}
 use Rattle.day_model.specs.Next.{entered_at, has_mir}
 use Rattle.day_model.proofs.laws.Places.{position_from-within}
 use Rattle.jrn_book.specs.Batches.{gate_of}
-use Rattle.jrn_book.specs.Index.{place_in}
+use Rattle.jrn_book.specs.inner.Index.{place_in}
 use Rattle.jrn_book.proofs.Drafted.{repeat_leaves, repeat_shows}
 use Rattle.jrn_book.proofs.Entering.{place_of}
 use Rattle.jrn_book.proofs.drafting.draft_one.Goals as goal

@@ -1,7 +1,7 @@
 use Rattle.std.proofs.Common.{◌≡◌, ◌+◌, ◌++◌, [], ◌∷◌, take, sym, ap, ◌∙◌, arith}
 use Rattle.std.proofs.lemmas.List.{take_more}
 use Rattle.day_model.specs.declared.pay.Pay.{Pay}
-use Rattle.jrn_book.specs.Drafting.{rooms_for}
+use Rattle.jrn_book.specs.inner.Drafting.{rooms_for}
 use Rattle.jrn_book.proofs.Drafted.{rooms_more}
 use Rattle.jrn_book.proofs.drafting.most_framed.Goals as goal
 

@@ -1,5 +1,5 @@
 use Rattle.std.proofs.Common.{◌≤◌, ◌*◌, take}
-use Rattle.jrn_book.specs.Drafting.{rooms_for}
+use Rattle.jrn_book.specs.inner.Drafting.{rooms_for}
 use Rattle.jrn_book.proofs.drafting.most_framed.Given as goal
 
 abbrev pub invariant-loop-p : goal.invariant-loop-p

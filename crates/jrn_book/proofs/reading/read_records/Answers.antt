@@ -1,6 +1,6 @@
 use Rattle.std.proofs.Common.{List, ℕ, ◌∙◌, subst, sym}
 use Rattle.std.proofs.lemmas.Result.{err_from_is_err_and}
-use Rattle.jrn_book.specs.Reading.{RefusesHead, RefusesRecords}
+use Rattle.jrn_book.specs.inner.Reading.{RefusesHead, RefusesRecords}
 use Rattle.jrn_book.proofs.Found.{refused_first}
 use Rattle.jrn_book.proofs.Growing.{all_from_head}
 use Rattle.jrn_book.proofs.reading.read_records.Goals as goal

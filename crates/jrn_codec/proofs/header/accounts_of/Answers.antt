@@ -1,6 +1,6 @@
 use Rattle.std.proofs.lemmas.Result.{err_from_is_err_and}
-use Rattle.jrn_codec.specs.Reading.{items_at}
-use Rattle.jrn_codec.specs.HeaderReading.{account_read}
+use Rattle.jrn_codec.specs.inner.Reading.{items_at}
+use Rattle.jrn_codec.specs.inner.HeaderReading.{account_read}
 use Rattle.jrn_codec.proofs.Loop.{goes_on, ends, is_done}
 use Rattle.jrn_codec.proofs.header.accounts_of.Goals as goal
 

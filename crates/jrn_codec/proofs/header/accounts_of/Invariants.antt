@@ -1,6 +1,6 @@
 use Rattle.std.proofs.Common.{◌≡◌, ◌-◌}
-use Rattle.jrn_codec.specs.Reading.{items_at}
-use Rattle.jrn_codec.specs.HeaderReading.{account_read}
+use Rattle.jrn_codec.specs.inner.Reading.{items_at}
+use Rattle.jrn_codec.specs.inner.HeaderReading.{account_read}
 use Rattle.jrn_codec.proofs.Loop.{with_front}
 use Rattle.jrn_codec.proofs.header.accounts_of.Given as goal
 

@@ -1,6 +1,6 @@
 use Rattle.std.proofs.lemmas.Result.{err_from_is_err_and}
-use Rattle.jrn_codec.specs.Reading.{items_at}
-use Rattle.jrn_codec.specs.RecordReading.{leg_at}
+use Rattle.jrn_codec.specs.inner.Reading.{items_at}
+use Rattle.jrn_codec.specs.inner.RecordReading.{leg_at}
 use Rattle.jrn_codec.proofs.Loop.{goes_on, ends, is_done}
 use Rattle.jrn_codec.proofs.leg.legs_of.Goals as goal
 

@@ -1,6 +1,6 @@
 use Rattle.std.proofs.Common.{◌≡◌, ◌-◌}
-use Rattle.jrn_codec.specs.Reading.{items_at}
-use Rattle.jrn_codec.specs.RecordReading.{leg_at}
+use Rattle.jrn_codec.specs.inner.Reading.{items_at}
+use Rattle.jrn_codec.specs.inner.RecordReading.{leg_at}
 use Rattle.jrn_codec.proofs.Loop.{with_front}
 use Rattle.jrn_codec.proofs.leg.legs_of.Given as goal
 

@@ -1,6 +1,6 @@
 use Rattle.std.proofs.Common.{◌≡◌, ◌-◌}
-use Rattle.jrn_codec.specs.Reading.{items_at}
-use Rattle.jrn_codec.specs.RecordReading.{order_at}
+use Rattle.jrn_codec.specs.inner.Reading.{items_at}
+use Rattle.jrn_codec.specs.inner.RecordReading.{order_at}
 use Rattle.jrn_codec.proofs.Loop.{with_front}
 use Rattle.jrn_codec.proofs.order.orders_of.Given as goal
 

@@ -1,6 +1,6 @@
 use Rattle.std.proofs.Common.{rules}
 use Rattle.std.proofs.lemmas.List.Sorted.{IsPartitionPoint-from_clause}
-use Rattle.ssi_versions.specs.Index.{has_begun, holds_at}
+use Rattle.ssi_versions.specs.inner.Index.{has_begun, holds_at}
 use Rattle.ssi_versions.proofs.Order.{parted}
 use Rattle.ssi_versions.proofs.index.begun_by.Goals as goal
 

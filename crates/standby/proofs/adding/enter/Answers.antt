@@ -6,7 +6,8 @@ use Rattle.jrn_file.specs.declared.fault.AppendFault.{AppendFault}
 use Rattle.jrn_codec.specs.Header.{head_bytes}
 use Rattle.jrn_codec.proofs.laws.Records.{few_in_item}
 use Rattle.jrn_book.specs.Journal.{item_records}
-use Rattle.standby.specs.Held.{IsBeforeOrWith, journal}
+use Rattle.standby.specs.Held.{journal}
+use Rattle.standby.specs.inner.Held.{IsBeforeOrWith}
 use Rattle.standby.proofs.Kept.{entered-settled, moments-entered, stays}
 use Rattle.standby.proofs.Takes.{frame-long, full-shows, has-come, is-frame, may-come, refused-shows, room-unless, same-held}
 use Rattle.standby.proofs.adding.enter.Goals as goal

@@ -4,8 +4,10 @@ use Rattle.jrn_file.specs.File.{IsSettled}
 use Rattle.jrn_file.specs.Making.{IsUnmadeOrMade}
 use Rattle.jrn_codec.proofs.laws.Records.{few_in_head}
 use Rattle.standby.specs.declared.answer.TakeFault.{TakeFault}
-use Rattle.standby.specs.Taking.{broken_after, fault_of}
-use Rattle.standby.specs.Held.{IsBeforeOrWith, MayComeNext, journal, nothing}
+use Rattle.standby.specs.Taking.{broken_after}
+use Rattle.standby.specs.inner.Taking.{fault_of}
+use Rattle.standby.specs.Held.{MayComeNext, journal, nothing}
+use Rattle.standby.specs.inner.Held.{IsBeforeOrWith}
 use Rattle.standby.proofs.Kept.{made-settled, moments-made, no-fault, unmade-kept, unmade-same}
 use Rattle.standby.proofs.Takes.{made-shows}
 use Rattle.standby.proofs.making.make_on.Goals as goal

@@ -1,6 +1,6 @@
 use Rattle.std.proofs.Common.{◌≡◌, ℕ, ◌+◌, ◌-◌, [], ◌∷◌, List, length, sym, ap, ◌∙◌, subst, arith, length-append}
 use Rattle.std.specs.Prelude.{All}
-use Rattle.statement.specs.Index.{IsOnOneOf, changed_at, pushed_each, undone}
+use Rattle.statement.specs.inner.Index.{IsOnOneOf, changed_at, pushed_each, undone}
 use Rattle.statement.specs.declared.ledger.Booking.{Booking}
 use Rattle.statement.proofs.Changes.{undone-pushed}
 use Rattle.statement.proofs.Pushing.{parted, pushed-last, same-count}

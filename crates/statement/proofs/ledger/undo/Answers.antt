@@ -1,5 +1,5 @@
 use Rattle.std.proofs.Common.{◌<◌, ℕ, List, length, ap, ◌∙◌, arith}
-use Rattle.statement.specs.Index.{changed_at, undone}
+use Rattle.statement.specs.inner.Index.{changed_at, undone}
 use Rattle.statement.specs.declared.ledger.Ledger.{Ledger}
 use Rattle.statement.specs.declared.movement.Movement.{Movement}
 use Rattle.statement.proofs.Changes.{changed-set}

@@ -2,8 +2,8 @@ use Rattle.std.proofs.Common.{◌≡◌, ◌+◌, ◌∷◌, [], ◌++◌, map, 
 use Rattle.std.specs.Prelude.{All}
 use Rattle.std.proofs.lemmas.List.{map-append, take_more}
 use Rattle.std.proofs.lemmas.List.Elements.{All-append}
-use Rattle.statement.specs.Running.{message_by}
-use Rattle.statement.specs.Valid.{PageReadsBack}
+use Rattle.statement.specs.inner.Running.{message_by}
+use Rattle.statement.specs.inner.Valid.{PageReadsBack}
 use Rattle.statement.specs.declared.page.PlacedPage.{PlacedPage}
 use Rattle.statement.proofs.Adding.{all-one}
 use Rattle.statement.proofs.paging.messages_of.Goals as goal

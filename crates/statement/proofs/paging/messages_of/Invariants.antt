@@ -1,7 +1,7 @@
 use Rattle.std.proofs.Common.{◌≡◌, map, take}
 use Rattle.std.specs.Prelude.{All}
-use Rattle.statement.specs.Running.{message_by}
-use Rattle.statement.specs.Valid.{PageReadsBack}
+use Rattle.statement.specs.inner.Running.{message_by}
+use Rattle.statement.specs.inner.Valid.{PageReadsBack}
 use Rattle.statement.proofs.paging.messages_of.Given as goal
 
 -- the messages of the pages so far, which read back

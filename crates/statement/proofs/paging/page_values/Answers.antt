@@ -1,6 +1,6 @@
 use Rattle.std.proofs.Common.{◌≡◌, ◌*◌, ℕ, List, ℤ, length, take, ap, ◌∙◌, subst, arith, to_z, of_z, w64}
 use Rattle.std.proofs.lemmas.Int.{to_z-of_z}
-use Rattle.statement.specs.Index.{last_balance}
+use Rattle.statement.specs.inner.Index.{last_balance}
 use Rattle.statement.specs.Pages.{pages_for}
 use Rattle.statement.specs.declared.movement.Movement.{Movement}
 use Rattle.statement.proofs.Adding.{kept, kept-rise}

@@ -2,8 +2,8 @@ use Rattle.std.proofs.Common.{map, subst, ◌∙◌}
 use Rattle.std.specs.Prelude.{All}
 use Rattle.std.proofs.lemmas.Result.{IfOk-weaker, on_ok_weaker}
 use Rattle.corr_ids.specs.declared.bic.Bic.{Bic}
-use Rattle.statement.specs.Running.{message_by}
-use Rattle.statement.specs.Valid.{PageReadsBack}
+use Rattle.statement.specs.inner.Running.{message_by}
+use Rattle.statement.specs.inner.Valid.{PageReadsBack}
 use Rattle.statement.specs.declared.page.PlacedPage.{PlacedPage}
 use Rattle.statement.proofs.Printing.{all-messages, all-read-back, owner-is, printable, statement-closes}
 use Rattle.statement.proofs.laws.Accepting.{accepted}

@@ -1,6 +1,6 @@
 use Rattle.std.proofs.Common.{◌+◌, ◌≤◌, ◌++◌, length, map, vec_capacity}
-use Rattle.work_pool.specs.Hands.{unserved}
-use Rattle.work_pool.specs.Tasks.{AreInHands}
+use Rattle.work_pool.specs.inner.Hands.{unserved}
+use Rattle.work_pool.specs.inner.Tasks.{AreInHands}
 use Rattle.work_pool.proofs.dealing.deal.Given as goal
 
 -- the hands so far, and those of the lists that are left

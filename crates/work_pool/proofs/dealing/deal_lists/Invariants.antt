@@ -1,5 +1,5 @@
 use Rattle.std.proofs.Common.{◌≡◌, List, ◌++◌, length, map}
-use Rattle.work_pool.specs.Tasks.{AreInLists}
+use Rattle.work_pool.specs.inner.Tasks.{AreInLists}
 use Rattle.work_pool.proofs.dealing.deal_lists.Given as goal
 
 abbrev pub invariant-loop-job : goal.invariant-loop-job

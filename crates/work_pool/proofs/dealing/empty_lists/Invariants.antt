@@ -1,5 +1,5 @@
 use Rattle.std.proofs.Common.{◌≤◌, [], map, vec_capacity}
-use Rattle.work_pool.specs.Tasks.{AreInLists}
+use Rattle.work_pool.specs.inner.Tasks.{AreInLists}
 use Rattle.work_pool.proofs.dealing.empty_lists.Given as goal
 
 abbrev pub invariant-loop : goal.invariant-loop

@@ -1,5 +1,5 @@
 use Rattle.std.proofs.Common.{◌≡◌}
-use Rattle.work_pool.specs.Serving.{Goes, PutsNone, IsReady}
+use Rattle.work_pool.specs.inner.Serving.{Goes, PutsNone, IsReady}
 use Rattle.work_pool.proofs.feeding.put.Given as goal
 
 abbrev pub invariant-loop : goal.invariant-loop

@@ -1,6 +1,6 @@
 use Rattle.std.proofs.Common.{◌≡◌, ◌++◌, length}
 use Rattle.crossbeam_queue.specs.Passes.{view}
-use Rattle.work_pool.specs.Serving.{Goes, IsReady}
+use Rattle.work_pool.specs.inner.Serving.{Goes, IsReady}
 use Rattle.work_pool.proofs.feeding.put_all.Given as goal
 
 abbrev pub invariant-loop : goal.invariant-loop

@@ -1,6 +1,6 @@
 use Rattle.std.proofs.Common.{◌+◌, List, arith, subst, sym, take, ◌∙◌}
-use Rattle.work_pool.specs.Hands.{tasks_of}
-use Rattle.work_pool.specs.Tasks.{ServedHand}
+use Rattle.work_pool.specs.inner.Hands.{tasks_of}
+use Rattle.work_pool.specs.inner.Tasks.{ServedHand}
 use Rattle.work_pool.proofs.Serving.{next_served, served_all}
 use Rattle.work_pool.proofs.hand.serve_jobs.Goals as goal
 

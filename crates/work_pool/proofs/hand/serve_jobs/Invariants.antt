@@ -1,6 +1,6 @@
 use Rattle.std.proofs.Common.{◌≡◌, List, length, take, vec_capacity}
-use Rattle.work_pool.specs.Hands.{tasks_of}
-use Rattle.work_pool.specs.Tasks.{ServedHand}
+use Rattle.work_pool.specs.inner.Hands.{tasks_of}
+use Rattle.work_pool.specs.inner.Tasks.{ServedHand}
 use Rattle.work_pool.proofs.hand.serve_jobs.Given as goal
 
 abbrev pub invariant-loop-job : goal.invariant-loop-job

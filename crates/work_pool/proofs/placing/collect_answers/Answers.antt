@@ -1,7 +1,7 @@
 use Rattle.std.proofs.Common.{◌≡◌, Some, Ok, length, ap, sym, subst, ◌∙◌, arith}
 use Rattle.std.proofs.lemmas.List.{length-map}
 use Rattle.work_pool.specs.Fed.{AreWithin}
-use Rattle.work_pool.specs.Placing.{lists_of}
+use Rattle.work_pool.specs.inner.Placing.{lists_of}
 use Rattle.work_pool.proofs.Placed.{are_full, are_replies}
 use Rattle.work_pool.proofs.placing.collect_answers.Goals as goal
 

@@ -1,5 +1,5 @@
 use Rattle.std.proofs.Common.{◌≡◌, ◌++◌}
-use Rattle.work_pool.specs.Placing.{ArePlaced, KeepsOthers}
+use Rattle.work_pool.specs.inner.Placing.{ArePlaced, KeepsOthers}
 use Rattle.work_pool.proofs.placing.place.Given as goal
 
 abbrev pub invariant-loop-answer : goal.invariant-loop-answer

@@ -1,5 +1,5 @@
 use Rattle.std.proofs.Common.{◌<◌, length, ap, sym, subst, ◌∙◌, refl, arith}
-use Rattle.work_pool.specs.Placing.{AreSlots}
+use Rattle.work_pool.specs.inner.Placing.{AreSlots}
 use Rattle.work_pool.proofs.Placed.{none_below, turn, all_below, are_slots, are_distinct, one_below}
 use Rattle.work_pool.proofs.placing.place_all.Goals as goal
 

@@ -1,6 +1,6 @@
 use Rattle.std.proofs.Common.{◌≡◌, length, map, ap, sym, ◌∙◌, subst, arith}
 use Rattle.work_pool.specs.Served.{AllTaken}
-use Rattle.work_pool.specs.Tasks.{AreSeated}
+use Rattle.work_pool.specs.inner.Tasks.{AreSeated}
 use Rattle.work_pool.proofs.Places.{given_back}
 use Rattle.work_pool.proofs.Whole.{all_served, no_others, replied}
 use Rattle.work_pool.proofs.run.run_jobs.Goals as goal

@@ -1,6 +1,6 @@
 use Rattle.std.proofs.Common.{◌∷◌, ◌++◌, [], length, length-append, map, ap, sym, ◌∙◌, subst, arith, rules, append_assoc}
 use Rattle.std.proofs.lemmas.List.{map-append}
-use Rattle.work_pool.specs.Seating.{AreHelpers}
+use Rattle.work_pool.specs.inner.Seating.{AreHelpers}
 use Rattle.work_pool.proofs.Rule.{cuts}
 use Rattle.work_pool.proofs.Seated.{one_helper_more}
 use Rattle.work_pool.proofs.seating.seat_at_line.Goals as goal

@@ -1,7 +1,7 @@
 use Rattle.std.proofs.Common.{◌≡◌, ◌+◌, ◌≤◌, ◌++◌, ◌∷◌, true, [], length, map, vec_capacity}
 use Rattle.crossbeam_queue.specs.Passes.{view, IsPassOf}
 use Rattle.work_pool.specs.Served.{most_workers}
-use Rattle.work_pool.specs.Seating.{AreHelpers}
+use Rattle.work_pool.specs.inner.Seating.{AreHelpers}
 use Rattle.work_pool.proofs.seating.seat_at_line.Given as goal
 
 abbrev pub invariant-loop-pass : goal.invariant-loop-pass

@@ -1,6 +1,6 @@
 use Rattle.std.proofs.Common.{◌≡◌, ◌+◌, ◌≤◌, ◌<◌, ◌++◌, length, map, vec_capacity}
 use Rattle.crossbeam_queue.specs.Passes.{view, IsPassOf}
-use Rattle.work_pool.specs.Seating.{AreHelping, TakesBack}
+use Rattle.work_pool.specs.inner.Seating.{AreHelping, TakesBack}
 use Rattle.work_pool.proofs.seating.take_back.Given as goal
 
 abbrev pub invariant-loop-server : goal.invariant-loop-server

@@ -1,4 +1,4 @@
-use Rattle.work_pool.specs.Serving.{Goes, PutsNone, IsReady}
+use Rattle.work_pool.specs.inner.Serving.{Goes, PutsNone, IsReady}
 use Rattle.work_pool.proofs.server.serve_line.Given as goal
 
 abbrev pub invariant-loop : goal.invariant-loop

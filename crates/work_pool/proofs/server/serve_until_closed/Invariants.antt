@@ -1,4 +1,4 @@
-use Rattle.work_pool.specs.Serving.{Goes, IsReady}
+use Rattle.work_pool.specs.inner.Serving.{Goes, IsReady}
 use Rattle.work_pool.proofs.server.serve_until_closed.Given as goal
 
 abbrev pub invariant-loop : goal.invariant-loop

@@ -2,8 +2,8 @@ use Rattle.std.proofs.Common.{◌≡◌, length, slice_get, ap, sym, ◌∙◌, 
 use denote.Param.Send.{sendable}
 use Rattle.std.proofs.Crossing.{crosses}
 use Rattle.std.proofs.lemmas.Option.{slice_get_read, slice_get_within}
-use Rattle.work_pool.specs.Seating.{AllGo, AreReady}
-use Rattle.work_pool.specs.Serving.{Goes, IsReady}
+use Rattle.work_pool.specs.inner.Seating.{AllGo, AreReady}
+use Rattle.work_pool.specs.inner.Serving.{Goes, IsReady}
 use Rattle.work_pool.proofs.Finished.{all_at, both_at}
 use Rattle.work_pool.proofs.Places.{given_back}
 use Rattle.work_pool.proofs.streaming.help.Goals as goal

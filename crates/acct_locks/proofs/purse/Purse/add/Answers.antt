@@ -1,6 +1,7 @@
 use Rattle.std.proofs.Common.{◌≡◌, ℕ, [], ◌∷◌, List, Some, sym, ap, ◌∙◌, subst}
 use Rattle.day_model.specs.Totals.{Pair, plus, leg_pair, pair_at}
-use Rattle.day_model.specs.Pairs.{pairs_with, with_pair}
+use Rattle.day_model.specs.Pairs.{pairs_with}
+use Rattle.day_model.specs.inner.Pairs.{with_pair}
 use Rattle.acct_locks.specs.Sides.{Sides}
 use Rattle.day_model.proofs.laws.PairLists.{one_leg}
 use Rattle.acct_locks.proofs.purse.Purse.add.Goals as goal

@@ -1,6 +1,6 @@
 use Rattle.std.proofs.Common.{List, ap, ◌∙◌}
 use Rattle.day_model.specs.Totals.{Pair}
-use Rattle.day_model.specs.Pairs.{with_pair}
+use Rattle.day_model.specs.inner.Pairs.{with_pair}
 use Rattle.acct_locks.specs.Sides.{Sides}
 use Rattle.acct_locks.specs.Holdings.{Holding}
 use Rattle.acct_locks.proofs.Places.{pair_same}

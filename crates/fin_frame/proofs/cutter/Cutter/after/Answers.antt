@@ -1,5 +1,5 @@
 use Rattle.std.proofs.Common.{◌≡◌, get_or, arith, sym, subst, ap, ◌∙◌}
-use Rattle.fin_frame.specs.Machine.{next_at, next, next_after, HasTaken, resumes, state_of}
+use Rattle.fin_frame.specs.inner.Machine.{next_at, next, next_after, HasTaken, resumes, state_of}
 use Rattle.fin_frame.proofs.laws.Running.{run-first, next-sound, after-more, took-resumed}
 use Rattle.fin_frame.proofs.cutter.Cutter.after.Goals as goal
 

@@ -1,5 +1,5 @@
 use Rattle.std.proofs.Common.{◌≡◌, Some, refl, sym, ap, ◌∙◌}
-use Rattle.fin_frame.specs.Machine.{moves, stage_between, state_of}
+use Rattle.fin_frame.specs.inner.Machine.{moves, stage_between, state_of}
 use Rattle.fin_frame.proofs.cutter.Cutter.between.Goals as goal
 
 pub returns-in-Some-clause-took : goal.returns-in-Some-clause-took

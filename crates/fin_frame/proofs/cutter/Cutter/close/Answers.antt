@@ -1,7 +1,7 @@
 use Rattle.std.proofs.Common.{◌≡◌, ◌==◌, true, arith, refl, sym, ap, ◌∙◌}
 use Rattle.std.proofs.lemmas.Bool.Decides.{nat_tests}
 use Rattle.fin_frame.specs.File.{is_gap_byte}
-use Rattle.fin_frame.specs.Machine.{to, state_of}
+use Rattle.fin_frame.specs.inner.Machine.{to, state_of}
 use Rattle.fin_frame.specs.declared.stage.Stage.TheVariants.{Between}
 use Rattle.fin_frame.proofs.laws.Running.{close-gap}
 use Rattle.fin_frame.proofs.cutter.Cutter.close.Goals as goal

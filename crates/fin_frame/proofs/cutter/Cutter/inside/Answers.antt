@@ -1,6 +1,6 @@
 use Rattle.std.proofs.Common.{◌≡◌, ◌+◌, ◌<◌, ◌≤◌, length, take, get_or, Some, arith, refl, sym, subst, ap, ◌⊎◌, IsTrue, ◌∙◌}
 use Rattle.fin_frame.specs.File.{most_bytes, left_open}
-use Rattle.fin_frame.specs.Machine.{held_bytes, next_at, grows, state_of}
+use Rattle.fin_frame.specs.inner.Machine.{held_bytes, next_at, grows, state_of}
 use Rattle.std.proofs.lemmas.List.{length-take-le, take-take}
 use Rattle.fin_frame.specs.Tidy.{is_tidy}
 use Rattle.fin_frame.specs.declared.stage.Stage.TheVariants.{Within}

@@ -1,5 +1,5 @@
 use Rattle.std.proofs.Common.{refl, sym, ◌∙◌}
-use Rattle.fin_frame.specs.Machine.{state_of}
+use Rattle.fin_frame.specs.inner.Machine.{state_of}
 use Rattle.fin_frame.proofs.laws.Running.{opening-more}
 use Rattle.fin_frame.proofs.cutter.Cutter.opening.Goals as goal
 

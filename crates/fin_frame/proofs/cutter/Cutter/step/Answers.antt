@@ -1,5 +1,5 @@
 use Rattle.std.proofs.Common.{◌≡◌, get_or, sym, ap, ◌∙◌}
-use Rattle.fin_frame.specs.Machine.{next_at, next, state_of}
+use Rattle.fin_frame.specs.inner.Machine.{next_at, next, state_of}
 use Rattle.fin_frame.specs.declared.stage.Stage.TheVariants.{Between}
 use Rattle.fin_frame.proofs.laws.Running.{took-one, next-sound}
 use Rattle.fin_frame.proofs.cutter.Cutter.step.Goals as goal

@@ -1,6 +1,6 @@
 use Rattle.std.proofs.Common.{◌≡◌, ◌+◌, ◌++◌, [], take, None, refl, arith, ap, sym, ◌∙◌}
 use Rattle.std.proofs.lemmas.Result.{err_from_is_err_and}
-use Rattle.fin_frame.specs.Machine.{state_of}
+use Rattle.fin_frame.specs.inner.Machine.{state_of}
 use Rattle.fin_frame.proofs.Feeding.{took-err, took-fed, took-later, took-on}
 use Rattle.fin_frame.proofs.cutter.Cutter.take_all.Goals as goal
 

@@ -1,5 +1,5 @@
 use Rattle.std.proofs.Common.{◌≡◌, ◌+◌, ◌++◌, ℕ, List, length, None}
-use Rattle.fin_frame.specs.Machine.{run, state_of}
+use Rattle.fin_frame.specs.inner.Machine.{run, state_of}
 use Rattle.fin_frame.proofs.cutter.Cutter.take_all.Given as goal
 
 abbrev pub invariant-loop-rest : goal.invariant-loop-rest

@@ -2,9 +2,10 @@ use Rattle.std.proofs.Common.{◌≡◌, ◌⊎◌, ◌+◌, ◌-◌, ◌≤◌,
 use Rattle.std.specs.List.{All}
 use Rattle.std.proofs.lemmas.List.{append-nil, drop_all, length-take-le, take_rest}
 use Rattle.std.proofs.lemmas.List.Elements.{All-nil}
-use Rattle.fin_frame.specs.Next.{AreFaulty, IsNext, IsUnfinished}
+use Rattle.fin_frame.specs.inner.Next.{AreFaulty, IsNext, IsUnfinished}
 use Rattle.fin_frame.specs.Pieces.{at_places, HasAll, HasTakenFile, IsPlaceIn}
-use Rattle.fin_frame.specs.Whole.{is_led, gap_goes_on}
+use Rattle.fin_frame.specs.Whole.{is_led}
+use Rattle.fin_frame.specs.inner.Whole.{gap_goes_on}
 use Rattle.fin_frame.specs.declared.next.Next.TheVariants.{Message}
 use Rattle.fin_frame.specs.declared.place.Place.{Place}
 use Rattle.fin_frame.proofs.PieceFile.{IsLedOn, faulty-there, led-on, led-so, none-all, places-more, taken-on, unfinished-all}

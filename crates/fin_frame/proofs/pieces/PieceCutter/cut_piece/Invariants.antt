@@ -1,7 +1,7 @@
 use Rattle.std.proofs.Common.{◌≡◌, ◌+◌, ◌-◌, ◌≤◌, ◌++◌, false, List, ℕ, length, take, drop, vec_capacity}
 use Rattle.std.specs.List.{All}
 use Rattle.fin_frame.specs.Pieces.{at_places, HasTakenFile, IsPlaceIn}
-use Rattle.fin_frame.specs.Whole.{gap_goes_on}
+use Rattle.fin_frame.specs.inner.Whole.{gap_goes_on}
 use Rattle.fin_frame.proofs.PieceFile.{IsLedOn}
 use Rattle.fin_frame.proofs.pieces.PieceCutter.cut_piece.Given as goal
 

@@ -1,9 +1,9 @@
 use Rattle.std.proofs.Common.{◌≡◌, false, Option, Some, None, rules, subst, sym}
 use Rattle.std.specs.Prelude.{IsOk, IsSome, is_some, Result, Ok, Err}
 use Rattle.jrn_book.specs.Answers.{Answer}
-use Rattle.jrn_book.specs.Appending.{Repeats}
+use Rattle.jrn_book.specs.inner.Appending.{Repeats}
 use Rattle.jrn_book.specs.Book.{Book, IsBook}
-use Rattle.jrn_book.specs.Commits.{Commits}
+use Rattle.jrn_book.specs.inner.Commits.{Commits}
 use Rattle.jrn_book.specs.declared.answer.CommitFault.TheVariants.{Broken, Memory}
 use Rattle.jrn_book.proofs.Commits.{broken, repeats, wanting}
 use Rattle.jrn_book.proofs.book.JrnBook.answer.Goals as goal

@@ -5,7 +5,7 @@ use Rattle.jrn_book.specs.declared.answer.CommitFault.TheVariants.{Broken}
 use Rattle.jrn_book.specs.Answers.{Answer}
 use Rattle.jrn_book.specs.Batches.{Stage, is_memory, is_new}
 use Rattle.jrn_book.specs.Book.{Book}
-use Rattle.jrn_book.specs.CommitsAll.{CommitsAll}
+use Rattle.jrn_book.specs.inner.CommitsAll.{CommitsAll}
 use Rattle.jrn_book.proofs.Batched.{stays}
 use Rattle.jrn_book.proofs.Chains.{any_same, chain_broken}
 use Rattle.jrn_book.proofs.Commits.{risen}

@@ -29,7 +29,8 @@ use Rattle.jrn_codec.specs.Record.{entry_bytes}
 use Rattle.jrn_book.specs.declared.answer.Failed.{Failed}
 use Rattle.jrn_book.specs.Book.{Book, Counts, IsLeftBy, StandsOnDisk}
 use Rattle.jrn_book.specs.Deciding.{HoldsAll}
-use Rattle.jrn_book.specs.Index.{place_in, references_of}
+use Rattle.jrn_book.specs.Index.{references_of}
+use Rattle.jrn_book.specs.inner.Index.{place_in}
 use Rattle.jrn_book.specs.Journal.{IsBeforeOrNext, IsJournal, item_records}
 use Rattle.jrn_book.proofs.Entering.{can_settle, held_with-nil, is_frame, moments, next_legal, place_of, records_next, references_more}
 use Rattle.jrn_book.proofs.laws.Items.{records_more}

@@ -17,11 +17,12 @@ use Rattle.jrn_codec.specs.Record.{IsEntry}
 use Rattle.jrn_book.specs.declared.answer.Failed.{Failed}
 use Rattle.jrn_book.specs.declared.answer.CommitFault.TheVariants.{Memory}
 use Rattle.jrn_book.specs.Answers.{Answer}
-use Rattle.jrn_book.specs.Batches.{AnswersInTurn, Stage, is_memory, is_new, untouched}
+use Rattle.jrn_book.specs.Batches.{AnswersInTurn, Stage, is_memory, is_new}
+use Rattle.jrn_book.specs.inner.Batches.{untouched}
 use Rattle.jrn_book.specs.Book.{Book, Counts, IsBook, StandsOnDisk}
-use Rattle.jrn_book.specs.CommitsAll.{CommitsAll}
+use Rattle.jrn_book.specs.inner.CommitsAll.{CommitsAll}
 use Rattle.jrn_book.specs.Deciding.{HoldsAll}
-use Rattle.jrn_book.specs.Drafting.{gated_records, records_of}
+use Rattle.jrn_book.specs.inner.Drafting.{gated_records, records_of}
 use Rattle.jrn_book.specs.Index.{references_of}
 use Rattle.jrn_book.specs.Journal.{IsJournal, file_of, item_records}
 use Rattle.jrn_book.proofs.Batched.{enters, fails, left_by_all, stays}

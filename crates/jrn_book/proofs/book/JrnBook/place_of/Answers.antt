@@ -1,5 +1,5 @@
 use Rattle.std.proofs.Common.{◌∙◌, ap}
-use Rattle.jrn_book.specs.Index.{place_in}
+use Rattle.jrn_book.specs.inner.Index.{place_in}
 use Rattle.day_model.specs.Next.{entered_at}
 use Rattle.jrn_book.specs.Book.{Book}
 use Rattle.jrn_book.proofs.Entering.{place_of}

@@ -2,7 +2,7 @@ use Rattle.std.proofs.Common.{◌≡◌, Bool, ℕ, true, false, Option, Some, N
 use Rattle.std.specs.Prelude.{is_none}
 use Rattle.std.specs.Bool.{OnTrue}
 use Rattle.day_model.specs.Next.{entered_at}
-use Rattle.jrn_book.specs.Index.{place_in}
+use Rattle.jrn_book.specs.inner.Index.{place_in}
 use Rattle.jrn_book.specs.Reading.{Read}
 use Rattle.jrn_book.proofs.Entering.{place_of}
 use Rattle.jrn_book.proofs.past.Past.has_place_for.Goals as goal

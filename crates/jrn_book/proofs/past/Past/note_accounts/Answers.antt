@@ -5,7 +5,8 @@ use Rattle.day_model.specs.Totals.{HasTotals, Pair}
 use Rattle.jrn_book.specs.declared.version.Version.TheVariants.{Two}
 use Rattle.jrn_book.specs.Journal.{IsJournal}
 use Rattle.jrn_book.specs.Opening.{IsNextOf}
-use Rattle.jrn_book.specs.Reading.{Read, widened}
+use Rattle.jrn_book.specs.Reading.{Read}
+use Rattle.jrn_book.specs.inner.Reading.{widened}
 use Rattle.jrn_book.proofs.Items.{journal_with}
 use Rattle.jrn_book.proofs.Widening.{has_widened}
 use Rattle.jrn_book.proofs.past.Past.note_accounts.Goals as goal

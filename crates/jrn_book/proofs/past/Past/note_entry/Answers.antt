@@ -11,7 +11,8 @@ use Rattle.day_model.proofs.laws.Histories.{entry_fits, has_entry}
 use Rattle.day_model.proofs.laws.Pairs.{booked_listed}
 use Rattle.jrn_book.specs.declared.version.Version.TheVariants.{Two}
 use Rattle.day_model.specs.declared.change.Item.TheVariants.{Entered}
-use Rattle.jrn_book.specs.Index.{place_in, references_of}
+use Rattle.jrn_book.specs.Index.{references_of}
+use Rattle.jrn_book.specs.inner.Index.{place_in}
 use Rattle.jrn_book.specs.Journal.{IsJournal}
 use Rattle.jrn_book.specs.Reading.{Read}
 use Rattle.jrn_book.proofs.Entering.{place_of, references_more}

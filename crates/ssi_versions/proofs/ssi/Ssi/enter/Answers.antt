@@ -2,7 +2,8 @@ use Rattle.std.proofs.Common.{◌≡◌, ◌≤◌, List, None, true, false, ◌
 use Rattle.std.specs.Prelude.{position}
 use Rattle.std.specs.List.Sorted.{IsPartitionPoint}
 use Rattle.std.proofs.lemmas.List.Elements.{All-push}
-use Rattle.ssi_versions.specs.Index.{has_begun, holds_at, key_by_bank, places_under}
+use Rattle.ssi_versions.specs.Index.{key_by_bank, places_under}
+use Rattle.ssi_versions.specs.inner.Index.{has_begun, holds_at}
 use Rattle.ssi_versions.specs.InstructionList.{IsInForm}
 use Rattle.ssi_versions.specs.Rows.{overlaps}
 use Rattle.ssi_versions.specs.declared.row.SsiRow.{SsiRow}

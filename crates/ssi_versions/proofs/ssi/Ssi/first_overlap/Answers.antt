@@ -1,7 +1,8 @@
 use Rattle.std.proofs.Common.{◌≡◌, ◌∙◌, false, sym}
 use Rattle.std.specs.List.{list_any}
 use Rattle.std.specs.List.Sorted.{IsPermutation}
-use Rattle.ssi_versions.specs.Index.{has_bank_key, holds_at, key_by_bank, places_where}
+use Rattle.ssi_versions.specs.Index.{has_bank_key, key_by_bank, places_where}
+use Rattle.ssi_versions.specs.inner.Index.{holds_at}
 use Rattle.ssi_versions.specs.Rows.{shares_a_day}
 use Rattle.ssi_versions.proofs.Entering.{overlaps-none}
 use Rattle.ssi_versions.proofs.ssi.Ssi.first_overlap.Goals as goal

@@ -3,7 +3,7 @@ use Rattle.std.proofs.lemmas.Int.{to_z-of_z}
 use Rattle.corr_ids.specs.declared.day.Day.{Day}
 use Rattle.day_model.specs.Balance.{balance_of}
 use Rattle.day_model.specs.declared.entry.Entry.{Entry}
-use Rattle.statement.specs.Index.{balance_at}
+use Rattle.statement.specs.inner.Index.{balance_at}
 use Rattle.statement.proofs.Adding.{kept, kept-before, kept-rise}
 use Rattle.statement.proofs.Days.{up-to-before}
 use Rattle.statement.proofs.index.HistoryIndex.balance_up_to.Goals as goal

@@ -1,7 +1,8 @@
 use Rattle.std.proofs.Common.{◌∷◌, [], ◌++◌, List, sym, ap, ◌∙◌, subst}
 use Rattle.std.specs.Prelude.{All, length}
 use Rattle.std.proofs.lemmas.Result.{on_ok_weaker}
-use Rattle.statement.specs.Index.{AreLedgersOf, IsOnOneOf, pushed_each}
+use Rattle.statement.specs.Index.{AreLedgersOf}
+use Rattle.statement.specs.inner.Index.{IsOnOneOf, pushed_each}
 use Rattle.statement.specs.declared.ledger.Booking.{Booking}
 use Rattle.statement.specs.declared.ledger.Ledger.{Ledger}
 use Rattle.statement.proofs.Adding.{next-fit}

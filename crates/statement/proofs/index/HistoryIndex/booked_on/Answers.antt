@@ -1,5 +1,5 @@
 use Rattle.std.proofs.Common.{[], map, refl, ap, ◌∙◌}
-use Rattle.statement.specs.Index.{on_day}
+use Rattle.statement.specs.inner.Index.{on_day}
 use Rattle.statement.specs.Running.{placed_by}
 use Rattle.statement.specs.declared.ledger.Ledger.{Ledger}
 use Rattle.statement.proofs.Adding.{kept, kept-rise}

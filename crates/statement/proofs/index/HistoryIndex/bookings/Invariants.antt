@@ -2,7 +2,8 @@ use Rattle.std.proofs.Common.{◌≡◌, take}
 use Rattle.std.specs.Prelude.{All}
 use Rattle.day_model.specs.declared.pay.Leg.{Leg}
 use Rattle.pay_returns.specs.References.{IsByteQuote}
-use Rattle.statement.specs.Index.{TakesNext, bookings_of}
+use Rattle.statement.specs.Index.{TakesNext}
+use Rattle.statement.specs.inner.Index.{bookings_of}
 use Rattle.statement.specs.Seen.{SeenBook}
 use Rattle.statement.proofs.index.HistoryIndex.bookings.Given as goal
 

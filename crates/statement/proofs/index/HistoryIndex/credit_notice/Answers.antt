@@ -7,7 +7,7 @@ use Rattle.day_model.specs.declared.pay.Leg.{Leg}
 use Rattle.day_model.specs.declared.pay.Order.TheVariants as order
 use Rattle.pay_returns.specs.Opposite.{is_credit}
 use Rattle.pay_returns.proofs.laws.Noticing.{credit-in, credit-told, no-credit}
-use Rattle.statement.specs.Index.{IsOnAccount}
+use Rattle.statement.specs.inner.Index.{IsOnAccount}
 use Rattle.statement.proofs.index.HistoryIndex.credit_notice.Goals as goal
 
 pub returns-in_err-at : goal.returns-in_err-at

@@ -1,7 +1,7 @@
 use Rattle.std.proofs.Common.{rules, ◌≡◌, List, take, ap, ◌∙◌, to_z, of_z, w64}
 use Rattle.std.specs.List.{filter}
 use Rattle.std.proofs.lemmas.Int.{to_z-of_z}
-use Rattle.statement.specs.Index.{is_of_earlier_day, last_balance}
+use Rattle.statement.specs.inner.Index.{is_of_earlier_day, last_balance}
 use Rattle.statement.specs.declared.movement.Movement.{Movement}
 use Rattle.statement.proofs.Parted.{parted}
 use Rattle.statement.proofs.ledger.Ledger.balance_before.Goals as goal

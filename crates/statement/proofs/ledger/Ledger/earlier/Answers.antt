@@ -1,7 +1,7 @@
 use Rattle.std.proofs.Common.{◌≡◌, true, false, List, sym, subst, rules}
 use Rattle.std.specs.List.Sorted.{IsPartitionPoint}
 use Rattle.std.proofs.lemmas.List.Sorted.{IsPartitionPoint-from_clause}
-use Rattle.statement.specs.Index.{Rise, is_of_earlier_day}
+use Rattle.statement.specs.inner.Index.{Rise, is_of_earlier_day}
 use Rattle.statement.specs.declared.movement.Movement.{Movement}
 use Rattle.statement.proofs.Parted.{rise_parts}
 use Rattle.statement.proofs.ledger.Ledger.earlier.Goals as goal

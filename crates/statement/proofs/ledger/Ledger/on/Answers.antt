@@ -1,7 +1,7 @@
 use Rattle.std.proofs.Common.{◌≡◌, ◌-◌, true, false, List, take, drop, ap, ◌∙◌, subst}
 use Rattle.std.specs.List.Sorted.{IsPartitionPoint}
 use Rattle.corr_ids.specs.declared.day.Day.{Day}
-use Rattle.statement.specs.Index.{is_of_earlier_day}
+use Rattle.statement.specs.inner.Index.{is_of_earlier_day}
 use Rattle.statement.specs.declared.movement.Movement.{Movement}
 use Rattle.statement.proofs.Parted.{between, ordered}
 use Rattle.statement.proofs.ledger.Ledger.on.Goals as goal

@@ -1,5 +1,5 @@
 use Rattle.std.proofs.Common.{List, ap, ◌∙◌}
-use Rattle.work_pool.specs.Hands.{tasks_of}
+use Rattle.work_pool.specs.inner.Hands.{tasks_of}
 use Rattle.work_pool.proofs.Hands.{tasks-unserved}
 use Rattle.work_pool.proofs.hand.Hand.of.Goals as goal
 

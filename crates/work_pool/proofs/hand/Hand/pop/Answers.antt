@@ -1,5 +1,5 @@
 use Rattle.std.proofs.Common.{◌≡◌, ◌<◌, ap, arith, length, subst, sym}
-use Rattle.work_pool.specs.Tasks.{AreReplied}
+use Rattle.work_pool.specs.inner.Tasks.{AreReplied}
 use Rattle.work_pool.proofs.Hands.{as_many, length-tasks_of, popped}
 use Rattle.work_pool.proofs.hand.Hand.pop.Goals as goal
 

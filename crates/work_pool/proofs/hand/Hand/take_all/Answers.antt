@@ -1,7 +1,7 @@
 use Rattle.std.proofs.Common.{◌≡◌, List, ap, arith, length, subst, sym, ◌∙◌}
 use Rattle.std.specs.List.{slice_get}
-use Rattle.work_pool.specs.Hands.{Task}
-use Rattle.work_pool.specs.Tasks.{AreReplied, reply_of}
+use Rattle.work_pool.specs.inner.Hands.{Task}
+use Rattle.work_pool.specs.inner.Tasks.{AreReplied, reply_of}
 use Rattle.work_pool.proofs.Hands.{as_many, reply-at}
 use Rattle.work_pool.proofs.hand.Hand.take_all.Goals as goal
 

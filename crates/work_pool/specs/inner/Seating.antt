@@ -4,8 +4,8 @@ use Rattle.crossbeam_queue.specs.declared.array_queue.Slotted.{Slotted}
 use Rattle.crossbeam_queue.specs.declared.array_queue.Doing.{Doing}
 use Rattle.crossbeam_queue.specs.Passes.{view, IsPassOf}
 use Rattle.work_pool.specs.Served.{most_workers}
-use Rattle.work_pool.specs.Line.{one_part}
-use Rattle.work_pool.specs.Serving.{Goes, IsReady}
+use Rattle.work_pool.specs.inner.Line.{one_part}
+use Rattle.work_pool.specs.inner.Serving.{Goes, IsReady}
 use Rattle.work_pool.specs.declared.line.Numbered.{Numbered}
 use Rattle.work_pool.specs.declared.line.Known.{Known}
 use Rattle.work_pool.specs.declared.server.Server.{Server}

@@ -7,7 +7,7 @@ use Rattle.corr_ids.specs.declared.bic.Bic.{Bic}
 use Rattle.day_model.specs.declared.account.Account.{Account}
 use Rattle.day_model.specs.Chart.{Chart}
 use Rattle.jrn_codec.specs.declared.header.Balances.{Balances}
-use Rattle.jrn_codec.specs.Reading.{cut, byte_at, number_at, signed_at, bic_at, short_at, items_at}
+use Rattle.jrn_codec.specs.inner.Reading.{cut, byte_at, number_at, signed_at, bic_at, short_at, items_at}
 
 -- floor, ceiling and opening
 unfoldable pub balances_at : List ℕ → Option (Balances × List ℕ)

@@ -2,7 +2,8 @@
 use Rattle.std.specs.Prelude.{◌≡◌, ◌≤◌, ◌⊎◌, ℕ, Bool, true, false, List, [], ◌++◌, length, take, drop}
 use Rattle.fin_frame.specs.File.{IsMessage, IsFileOf}
 use Rattle.fin_frame.specs.Shown.{is_marked, is_over, stands_apart}
-use Rattle.fin_frame.specs.Whole.{is_led, gap_goes_on, IsPart, EndsOpen}
+use Rattle.fin_frame.specs.Whole.{is_led}
+use Rattle.fin_frame.specs.inner.Whole.{gap_goes_on, IsPart, EndsOpen}
 use Rattle.fin_frame.specs.Pieces.{IsFaulty}
 use Rattle.fin_frame.specs.declared.next.Next.{Next}
 use Rattle.fin_frame.specs.declared.next.Next.TheVariants.{Message, Open, Faulty}

@@ -3,8 +3,8 @@ use Rattle.std.specs.Prelude.{◌≡◌, ℕ, ◌≤◌, length}
 use Rattle.atomic_table.specs.Table.{Me, Step, step}
 use mathlib.Core.Option.{none}
 use Rattle.front_word.specs.declared.view.View.{View}
-use Rattle.front_word.specs.Views.{having_seen}
-use Rattle.front_word.specs.Rule.{IsKept, IsDistinct}
+use Rattle.front_word.specs.inner.Views.{having_seen}
+use Rattle.front_word.specs.inner.Rule.{IsKept, IsDistinct}
 
 -- what the steps below tell is the same of each step
 abbrev pub any_step : Step (Unit {0})

@@ -31,7 +31,7 @@ use Rattle.day_model.specs.Fit.{are_legs}
 use Rattle.day_model.specs.Shape.{most_text}
 use Rattle.jrn_codec.specs.declared.entry.Stamp.{Stamp}
 use Rattle.jrn_codec.specs.declared.entry.Fate.{Fate}
-use Rattle.jrn_codec.specs.Reading.{byte_at, number_at, signed_at, spelled_at, mark_at, bic_at, optional_at, short_at, long_at, listed_at}
+use Rattle.jrn_codec.specs.inner.Reading.{byte_at, number_at, signed_at, spelled_at, mark_at, bic_at, optional_at, short_at, long_at, listed_at}
 
 -- the type of a message by its mark
 abbrev pub mt_of : ℕ → Option Mt

@@ -20,6 +20,7 @@ module _ {Job : Type 0} where
   abbrev pub numbered : List Job → List (Numbered Job)
   numbered jobs = numbered_from 1 jobs
 
+  -- the numbers of jobs
   abbrev pub numbers_of : List (Numbered Job) → List ℕ
   numbers_of items = map (λ item. item.number) items
 
@@ -47,9 +48,11 @@ module _ {Job : Type 0} where
   abbrev pub with_other : Known Job → Known Job → Known Job
   with_other v w = record { parts = v.parts + w.parts; alone = v.alone; feeds = v.feeds; given = v.given; taken = v.taken ++ w.taken }
 
+  -- what a token knows that has put one job more
   abbrev pub puts : Known Job → Numbered Job → Known Job
   puts v item = record { parts = v.parts; alone = v.alone; feeds = v.feeds; given = v.given ++ item.job ∷ []; taken = v.taken }
 
+  -- and one that has taken one more
   abbrev pub takes : Known Job → Numbered Job → Known Job
   takes v item = record { parts = v.parts; alone = v.alone; feeds = v.feeds; given = v.given; taken = v.taken ++ item ∷ [] }
 

@@ -1,9 +1,9 @@
 -- The end of a run over a feed.
 use Rattle.std.specs.Prelude.{◌≡◌, ℕ, List, [], ◌++◌, Result, IfOk, Ok}
 use Rattle.crossbeam_queue.specs.Passes.{view}
-use Rattle.work_pool.specs.Line.{IsAll}
-use Rattle.work_pool.specs.Seating.{joined, taken_of}
-use Rattle.work_pool.specs.Serving.{ServedItems}
+use Rattle.work_pool.specs.inner.Line.{IsAll}
+use Rattle.work_pool.specs.inner.Seating.{joined, taken_of}
+use Rattle.work_pool.specs.inner.Serving.{ServedItems}
 use Rattle.work_pool.specs.declared.line.Numbered.{Numbered}
 use Rattle.work_pool.specs.declared.server.Server.{Server}
 

@@ -6,7 +6,7 @@ use Rattle.front_word.specs.declared.view.Kept.{Kept}
 use Rattle.front_word.specs.declared.view.View.{View}
 use Rattle.front_word.specs.declared.view.Of.TheVariants.{Neither, Own, Other}
 use Rattle.front_word.specs.declared.view.Role.TheVariants.{Spent, Writer, WriterCopy, Pass, PassCopy}
-use Rattle.front_word.specs.Prefix.{longer}
+use Rattle.front_word.specs.inner.Prefix.{longer}
 
 -- no join yet
 abbrev pub nothing_kept : Kept

@@ -1,7 +1,7 @@
 -- Jobs on their way from the list of jobs over the workers' hands to the list of replies.
 use Rattle.std.specs.Prelude.{◌≡◌, ℕ, ◌+◌, ◌*◌, List, [], ◌∷◌, Option, Some, IsSome, length, slice_get, option_map, option_and_then, map}
 use Rattle.work_pool.specs.declared.seat.Seat.{Seat}
-use Rattle.work_pool.specs.Hands.{Task, unserved}
+use Rattle.work_pool.specs.inner.Hands.{Task, unserved}
 
 -- the reply to the job at a place, if it was served
 abbrev pub reply_of : {Job Reply : Type 0} → List (Task Job Reply) → ℕ → Option Reply

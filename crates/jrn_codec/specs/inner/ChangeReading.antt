@@ -4,8 +4,8 @@ use Rattle.std.specs.Int.{w16, w64}
 use Rattle.corr_ids.specs.Day.{◌>>=◌}
 use Rattle.day_model.specs.declared.change.What.{What}
 use Rattle.day_model.specs.declared.change.What.TheVariants.{Opened, Limits}
-use Rattle.jrn_codec.specs.Reading.{byte_at, number_at, signed_at}
-use Rattle.jrn_codec.specs.HeaderReading.{account_read}
+use Rattle.jrn_codec.specs.inner.Reading.{byte_at, number_at, signed_at}
+use Rattle.jrn_codec.specs.inner.HeaderReading.{account_read}
 
 -- a new account
 unfoldable pub opened_at : List ℕ → Option (What × List ℕ)

@@ -1,0 +1,6 @@
+-- Braces.
+use Rattle.std.specs.Prelude.{ℕ, Bool, if◌then◌else◌}
+
+-- 1 for true
+abbrev pub one_if : Bool → ℕ
+one_if b = if b then 1 else 0

@@ -1,0 +1,4 @@
+pub mod Found
+pub mod Order
+pub mod Reading
+pub mod Segments

@@ -1,0 +1,5 @@
+pub mod Blank
+pub mod Prefix
+pub mod Rule
+pub mod Steps
+pub mod Views

@@ -1,0 +1,10 @@
+pub mod Appending
+pub mod Batches
+pub mod Changing
+pub mod Commits
+pub mod CommitsAll
+pub mod Deciding
+pub mod Drafting
+pub mod Following
+pub mod Index
+pub mod Reading

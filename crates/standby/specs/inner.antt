@@ -1,0 +1,4 @@
+pub mod Following
+pub mod Held
+pub mod Shipping
+pub mod Taking
