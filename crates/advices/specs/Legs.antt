@@ -1,7 +1,8 @@
 -- The legs of a pay, with their accounts.
 use Rattle.std.specs.Prelude.{ℕ, ◌-◌, ◌==◌, Option, None, option_map, option_and_then, slice_get, if◌then◌else◌}
 use Rattle.corr_money.specs.declared.amount.Amount.{Amount}
-use Rattle.day_model.specs.Chart.{Chart, account_at, fee}
+use Rattle.day_model.specs.Chart.{Chart, account_at}
+use Rattle.corr_ids.specs.Kinds.{fee}
 use Rattle.day_model.specs.Fit.{side_sum}
 use Rattle.day_model.specs.declared.account.Account.{Account}
 use Rattle.day_model.specs.declared.pay.Leg.{Leg}

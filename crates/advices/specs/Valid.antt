@@ -24,7 +24,8 @@ use Rattle.mt202cov.specs.declared.message.Mt202Cov.{Mt202Cov}
 use Rattle.mt9_advice.specs.Advice.{mt900_of, mt910_of, tests_900, tests_910}
 use Rattle.mt9_advice.specs.declared.credit.Mt910.{Mt910}
 use Rattle.mt9_advice.specs.declared.debit.Mt900.{Mt900}
-use Rattle.day_model.specs.Chart.{Chart, IsChart, fee}
+use Rattle.day_model.specs.Chart.{Chart, IsChart}
+use Rattle.corr_ids.specs.Kinds.{fee}
 use Rattle.day_model.specs.Fit.{FitsAccounts}
 use Rattle.day_model.specs.Shape.{HasShape, IsNumbered, IsReference}
 use Rattle.day_model.specs.declared.account.Account.{Account}

@@ -6,7 +6,8 @@ use Rattle.corr_ids.specs.declared.envelope.Envelope.{Envelope}
 use Rattle.corr_money.specs.declared.amount.Amount.{Amount}
 use Rattle.day_model.specs.declared.account.Account.{Account}
 use Rattle.day_model.specs.declared.account.AcctNo.{AcctNo}
-use Rattle.day_model.specs.Chart.{Chart, account_at, fee}
+use Rattle.day_model.specs.Chart.{Chart, account_at}
+use Rattle.corr_ids.specs.Kinds.{fee}
 use Rattle.day_model.specs.Fit.{is_listed}
 use Rattle.ssi_versions.specs.declared.row.SsiRow.{SsiRow}
 use Rattle.routing.specs.Accounts.{AreBetween, fits_amount, fits_at}

@@ -12,7 +12,8 @@ use Rattle.corr_ids.specs.Mir.{IsMir}
 use Rattle.corr_ids.specs.declared.bic.Bic.{Bic}
 use Rattle.corr_ids.specs.declared.envelope.Envelope.{Envelope}
 use Rattle.corr_ids.specs.declared.mir.Mir.{Mir}
-use Rattle.day_model.specs.Chart.{Chart, IsChart, account_at, accounts_of, vostro}
+use Rattle.day_model.specs.Chart.{Chart, IsChart, account_at, accounts_of}
+use Rattle.corr_ids.specs.Kinds.{vostro}
 use Rattle.day_model.specs.Fit.{are_legs, is_listed}
 use Rattle.day_model.specs.Shape.{HasShape, IsLeg, IsOrder, IsQuote, IsReference}
 use Rattle.day_model.specs.declared.account.Account.{Account}

@@ -6,7 +6,8 @@ use Rattle.corr_text.specs.declared.fault.Code.{Code}
 use Rattle.corr_money.specs.declared.amount.Amount.{Amount}
 use Rattle.corr_money.specs.declared.amount.Minor.{Minor}
 use Rattle.day_model.specs.declared.account.Account.{Account}
-use Rattle.day_model.specs.Chart.{Chart, account_at, fee}
+use Rattle.day_model.specs.Chart.{Chart, account_at}
+use Rattle.corr_ids.specs.Kinds.{fee}
 use Rattle.ref_tables.specs.Seen.{charge_in}
 use Rattle.mt103.specs.Codes.{is_charged}
 use Rattle.routing.specs.Accounts.{AreBetween, account_with, fits_at}

@@ -6,7 +6,7 @@ use Rattle.day_model.specs.declared.pay.Order.{Order}
 use Rattle.day_model.specs.declared.pay.Order.TheVariants as order
 use Rattle.day_model.specs.declared.pay.Skip.{Skip}
 use Rattle.day_model.specs.declared.pay.Skip.TheVariants.{Both, Keep, Mid}
-use Rattle.day_model.specs.Chart.{vostro}
+use Rattle.corr_ids.specs.Kinds.{vostro}
 use Rattle.routing.specs.Route.{is_bank}
 use Rattle.routing.specs.declared.target.Target.{Target}
 use Rattle.routing.specs.declared.target.Target.TheVariants.{Bank}

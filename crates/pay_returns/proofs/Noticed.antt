@@ -6,7 +6,8 @@ use Rattle.std.proofs.lemmas.List.Elements.{All-append, All-cons, All-nil}
 use Rattle.std.proofs.lemmas.Option.{none-some}
 use Rattle.corr_ids.specs.Bic.{IsBic}
 use Rattle.corr_ids.specs.declared.bic.Bic.{Bic}
-use Rattle.day_model.specs.Chart.{Chart, IsChart, account_at, vostro}
+use Rattle.day_model.specs.Chart.{Chart, IsChart, account_at}
+use Rattle.corr_ids.specs.Kinds.{vostro}
 use Rattle.day_model.specs.Shape.{IsNumbered, IsOrder}
 use Rattle.day_model.specs.declared.account.Account.{Account}
 use Rattle.day_model.specs.declared.pay.Leg.{Leg}

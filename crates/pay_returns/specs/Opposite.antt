@@ -5,7 +5,8 @@ use Rattle.corr_text.specs.Digits.{padded}
 use Rattle.corr_ids.specs.declared.bic.Bic.{Bic}
 use Rattle.corr_ids.specs.declared.day.Day.{Day}
 use Rattle.corr_ids.specs.declared.mir.Mir.{Mir}
-use Rattle.day_model.specs.Chart.{Chart, account_at, vostro}
+use Rattle.day_model.specs.Chart.{Chart, account_at}
+use Rattle.corr_ids.specs.Kinds.{vostro}
 use Rattle.day_model.specs.Fit.{is_side}
 use Rattle.day_model.specs.declared.account.Account.{Account}
 use Rattle.day_model.specs.declared.entry.Entry.{Entry}

@@ -3,7 +3,8 @@ use Rattle.std.specs.Prelude.{ℕ, ◌-◌, nat_lt, ◌==◌, ◌&&◌, Bool, fa
 use Rattle.std.specs.Option.{option_map_or}
 use Rattle.corr_ids.specs.Day.{yymmdd_of}
 use Rattle.corr_report.specs.Lines.{spaced}
-use Rattle.day_model.specs.Chart.{Chart, account_at, accounts_of, has_id, is_same_ccy, nostro, number_of_first}
+use Rattle.day_model.specs.Chart.{Chart, account_at, accounts_of, has_id, is_same_ccy, number_of_first}
+use Rattle.corr_ids.specs.Kinds.{nostro}
 use Rattle.day_model.specs.declared.account.Account.{Account}
 use Rattle.day_model.specs.declared.account.AcctNo.{AcctNo}
 use Rattle.day_model.specs.declared.entry.Entry.{Entry}

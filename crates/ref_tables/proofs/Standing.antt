@@ -12,16 +12,17 @@ use Rattle.std.proofs.lemmas.Option.{slice_get-map, slice_get-get_or, slice_get_
 use Rattle.std.proofs.lemmas.Slice.Eq.{bytes_eq-Decides}
 use Rattle.corr_text.specs.First.{first_of, unless}
 use Rattle.corr_ids.specs.Bic.{bic_of, branch_of, is_bic}
+use Rattle.corr_ids.specs.Kinds.{IsSameBank, customer, is_kind}
 use Rattle.corr_money.specs.Amounts.{amount_end}
 use Rattle.ref_tables.specs.declared.account.AccountRow.{AccountRow}
 use Rattle.ref_tables.specs.declared.fault.Why.{Why}
 use Rattle.ref_tables.specs.declared.fault.Why.TheVariants as why
-use Rattle.ref_tables.specs.Columns.{is_account_id, is_ccy, is_kind, kind_in_cell, signed_of}
+use Rattle.ref_tables.specs.Columns.{is_account_id, is_ccy, kind_in_cell, signed_of}
 use Rattle.ref_tables.specs.Rows.{Cells, cell, rows_within}
 use Rattle.ref_tables.specs.Refusals.{against, value, double, first_bad_row}
 use Rattle.ref_tables.specs.Seen.{Tables, has_head, decimals_in}
-use Rattle.ref_tables.specs.Accounts.{account_fault, account_of, clashes, customer, form_fault, owner_fits, standing_fault, within_limits}
-use Rattle.ref_tables.specs.AccountList.{AreAccounts, IsAccount, IsSameRelation}
+use Rattle.ref_tables.specs.Accounts.{account_fault, account_of, clashes, form_fault, owner_fits, standing_fault, within_limits}
+use Rattle.ref_tables.specs.AccountList.{AreAccounts, IsAccount}
 use Rattle.ref_tables.proofs.laws.Fine.{both-none, fine-at, head-none, next-holds, none-meets}
 use Rattle.ref_tables.proofs.laws.Records.{rows_within_some}
 
@@ -143,12 +144,12 @@ differ m n k other same = grind (arith, nat_tests)
 equal : (m n : ℕ) → m ≡ n → (n == m) ≡ true
 equal m n e = grind (arith, nat_tests)
 
-clash-relations : (a b : AccountRow) → IsSameRelation a b → clashes b a ≡ true
+clash-relations : (a b : AccountRow) → IsSameBank a.kind a.owner.head a.ccy.0 b.kind b.owner.head b.ccy.0 → clashes b a ≡ true
 clash-relations a b same =
-    let kind = differ a.kind customer b.kind same.bank same.kind in
-    let kinds = equal a.kind b.kind same.kind in
-    let heads = same-bytes b.owner.head a.owner.head (sym same.head) in
-    let ccys = same-bytes b.ccy.0 a.ccy.0 (sym (ap (λ c. c.0) same.ccy)) in
+    let kind = differ a.kind customer b.kind same.bank same.kinds in
+    let kinds = equal a.kind b.kind same.kinds in
+    let heads = same-bytes b.owner.head a.owner.head (sym same.heads) in
+    let ccys = same-bytes b.ccy.0 a.ccy.0 (sym same.ccys) in
     rw (kind, kinds, heads, ccys) (or-true _)
 
 module _ (home : List ℕ) (t : Tables) (rows : List Cells) (fine : first_bad_row (against (account_of t) (account_fault home t)) [] rows ≡ None) where
@@ -191,8 +192,9 @@ module _ (home : List ℕ) (t : Tables) (rows : List Cells) (fine : first_bad_ro
         ]
       ]
 
-same-relation-back : (a b : AccountRow) → IsSameRelation a b → IsSameRelation b a
-same-relation-back a b same = record { bank = λ c. same.bank (same.kind ∙ c); kind = sym same.kind; head = sym same.head; ccy = sym same.ccy }
+same-bank-back : (kind : ℕ) (head ccy : List ℕ) (other_kind : ℕ) (other_head other_ccy : List ℕ) → IsSameBank kind head ccy other_kind other_head other_ccy → IsSameBank other_kind other_head other_ccy kind head ccy
+same-bank-back kind head ccy other_kind other_head other_ccy same =
+    record { bank = λ c. same.bank (same.kinds ∙ c); kinds = sym same.kinds; heads = sym same.heads; ccys = sym same.ccys }
 
 decimals-from : (t : Tables) (row : Cells) (a : AccountRow) → a ≡ account_of t row → a.decimals ≡ unwrap_or (decimals_in t a.ccy.0) 0
 decimals-from t row a e = rw e refl
@@ -208,7 +210,7 @@ are-accounts home t rows few fine small =
           let digits : a.decimals ≤ 4 = rw (get_or_from_slice_get (map (account_of t) rows) i a a at) at (small i a (simp length-map x.0)) in
           rw x.1 (stands-at home t rows fine i [] x.0 (rw x.1 at digits));
       ids = λ i j a b at-i at-j same. one home t rows fine i j a b at-i at-j (clash-ids b a (sym same)) (clash-ids a b same);
-      relations = λ i j a b at-i at-j same. one home t rows fine i j a b at-i at-j (clash-relations b a (same-relation-back a b same)) (clash-relations a b same);
+      relations = λ i j a b at-i at-j same. one home t rows fine i j a b at-i at-j (clash-relations b a (same-bank-back a.kind a.owner.head a.ccy.0 b.kind b.owner.head b.ccy.0 same)) (clash-relations a b same);
       decimals = λ i j a b at-i at-j same.
           decimals-from t _ a ((row-of home t rows fine i a at-i).1) ∙ ap (λ c. unwrap_or (decimals_in t c.0) 0) same ∙ sym (decimals-from t _ b ((row-of home t rows fine j b at-j).1));
     }

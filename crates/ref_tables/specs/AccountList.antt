@@ -1,11 +1,12 @@
 -- What holds of the accounts that a table gives.
-use Rattle.std.specs.Prelude.{◌≡◌, ◌≢◌, ◌≤◌, ◌<◌, ℕ, List, length, slice_get, Some, ◌≤ℤ◌, unsigned_abs, IsTrue}
+use Rattle.std.specs.Prelude.{◌≡◌, ◌≤◌, ◌<◌, ℕ, List, length, slice_get, Some, ◌≤ℤ◌, unsigned_abs, IsTrue}
 use Rattle.corr_ids.specs.Bic.{bic_of}
+use Rattle.corr_ids.specs.Kinds.{IsSameBank, is_kind}
 use Rattle.corr_money.specs.Amounts.{amount_end, most_decimals}
-use Rattle.ref_tables.specs.Columns.{is_account_id, is_ccy, is_kind}
+use Rattle.ref_tables.specs.Columns.{is_account_id, is_ccy}
 use Rattle.ref_tables.specs.Rows.{most_rows}
 use Rattle.ref_tables.specs.Seen.{Tables, has_head, decimals_in}
-use Rattle.ref_tables.specs.Accounts.{customer, owner_fits}
+use Rattle.ref_tables.specs.Accounts.{owner_fits}
 use Rattle.ref_tables.specs.declared.account.AccountRow.{AccountRow}
 
 -- an account of a home bank with this head, under these tables
@@ -24,17 +25,10 @@ pub record IsAccount (home : List ℕ) (t : Tables) (a : AccountRow) : Type 0 wh
   pub above_floor : a.floor ≤ℤ a.opening
   pub below_ceil : a.opening ≤ℤ a.ceil
 
--- accounts of one kind that is not a customer's, one owner (by head) and one currency
-pub record IsSameRelation (a b : AccountRow) : Type 0 where
-  pub bank : a.kind ≢ customer
-  pub kind : a.kind ≡ b.kind
-  pub head : a.owner.head ≡ b.owner.head
-  pub ccy : a.ccy ≡ b.ccy
-
 -- the accounts of a table: at most 1,000, no two with one id or of one relation, and one number of decimals a currency
 pub record AreAccounts (home : List ℕ) (t : Tables) (accounts : List AccountRow) : Type 0 where
   pub few : length accounts ≤ most_rows
   pub each : (i : ℕ) (a : AccountRow) → slice_get accounts i ≡ Some a → IsAccount home t a
   pub ids : (i j : ℕ) (a b : AccountRow) → slice_get accounts i ≡ Some a → slice_get accounts j ≡ Some b → a.id ≡ b.id → i ≡ j
-  pub relations : (i j : ℕ) (a b : AccountRow) → slice_get accounts i ≡ Some a → slice_get accounts j ≡ Some b → IsSameRelation a b → i ≡ j
+  pub relations : (i j : ℕ) (a b : AccountRow) → slice_get accounts i ≡ Some a → slice_get accounts j ≡ Some b → IsSameBank a.kind a.owner.head a.ccy.0 b.kind b.owner.head b.ccy.0 → i ≡ j
   pub decimals : (i j : ℕ) (a b : AccountRow) → slice_get accounts i ≡ Some a → slice_get accounts j ≡ Some b → a.ccy ≡ b.ccy → a.decimals ≡ b.decimals

@@ -4,6 +4,7 @@ use Rattle.std.specs.Option.{option_or}
 use Rattle.std.specs.Str.{bytes_eq}
 use Rattle.corr_text.specs.First.{first_of, unless}
 use Rattle.corr_ids.specs.Bic.{is_bic, branch_of}
+use Rattle.corr_ids.specs.Kinds.{customer, fee}
 use Rattle.corr_money.specs.Amounts.{amount_end}
 use Rattle.ref_tables.specs.Columns.{is_ccy, is_account_id, kind_in_cell, signed_of}
 use Rattle.ref_tables.specs.Rows.{Cells, cell, most_rows}
@@ -12,14 +13,6 @@ use Rattle.ref_tables.specs.Seen.{Tables, has_head, decimals_in}
 use Rattle.ref_tables.specs.declared.account.AccountRow.{AccountRow}
 use Rattle.ref_tables.specs.declared.fault.Why.{Why}
 use Rattle.ref_tables.specs.declared.fault.Why.TheVariants as why
-
--- the kind of a customer's account, C
-abbrev pub customer : ℕ
-customer = 67
-
--- the kind of an account of fees, F
-abbrev pub fee : ℕ
-fee = 70
 
 -- the account that a row says: id, kind, owner, currency, floor, ceiling, opening; the currency's decimals are the table's
 abbrev pub account_of : Tables → Cells → AccountRow

@@ -1,9 +1,10 @@
 -- The forms of columns.
-use Rattle.std.specs.Prelude.{ℕ, ◌-◌, ◌==◌, ◌&&◌, ◌||◌, Bool, List, [], ◌∷◌, length, drop, Option, Some, None, option_and_then, option_map, nat_le, nat_lt, slice_index, ℤ, pos, neg_ℤ, if◌then◌else◌}
+use Rattle.std.specs.Prelude.{ℕ, ◌-◌, ◌==◌, ◌&&◌, Bool, List, [], ◌∷◌, length, drop, Option, Some, None, option_and_then, option_map, nat_le, nat_lt, slice_index, ℤ, pos, neg_ℤ, if◌then◌else◌}
 use Rattle.std.specs.List.{list_all}
 use Rattle.std.specs.Char.{is_ascii_uppercase}
 use Rattle.corr_text.specs.Digits.{number_of}
 use Rattle.corr_text.specs.Sets.{is_c_byte}
+use Rattle.corr_ids.specs.Kinds.{is_kind}
 use Rattle.corr_money.specs.Amounts.{amount_end}
 use Rattle.corr_money.specs.declared.amount.Minor.{Minor}
 
@@ -28,10 +29,6 @@ yes_of _ = None
 -- an account's id: 1 to 34 capital letters and digits
 abbrev pub is_account_id : List ℕ → Bool
 is_account_id bs = nat_le 1 (length bs) && nat_le (length bs) 34 && list_all is_c_byte bs
-
--- the kinds of accounts: C (a customer's), V (vostro), N (nostro) and F (of fees)
-abbrev pub is_kind : ℕ → Bool
-is_kind b = (b == 67) || (b == 86) || (b == 78) || (b == 70)
 
 -- a kind, of one letter
 abbrev pub kind_in_cell : List ℕ → Option ℕ

@@ -9,7 +9,8 @@ use Rattle.std.proofs.lemmas.Slice.Eq.{bytes_eq-Decides}
 use Rattle.corr_money.specs.declared.amount.Amount.{Amount}
 use Rattle.day_model.specs.declared.account.Account.{Account}
 use Rattle.day_model.specs.declared.account.AcctNo.{AcctNo}
-use Rattle.day_model.specs.Chart.{AreAccounts, Chart, IsListed, account_at, accounts_of, customer, has_id, is_owned, is_same_ccy, nostro, number_of_first, vostro}
+use Rattle.day_model.specs.Chart.{AreAccounts, Chart, IsListed, account_at, accounts_of, has_id, is_owned, is_same_ccy, number_of_first}
+use Rattle.corr_ids.specs.Kinds.{customer, nostro, vostro}
 use Rattle.day_model.proofs.laws.Places.{listed, place-of}
 use Rattle.routing.specs.Accounts.{fits_amount, fits_at, account_named, serves}
 use Rattle.routing.specs.declared.ledger.Wanted.{Wanted}

@@ -5,7 +5,8 @@ use Rattle.corr_ids.specs.declared.bic.Bic.{Bic}
 use Rattle.corr_money.specs.declared.amount.Amount.{Amount}
 use Rattle.day_model.specs.declared.account.Account.{Account}
 use Rattle.day_model.specs.declared.account.AcctNo.{AcctNo}
-use Rattle.day_model.specs.Chart.{Chart, account_at, accounts_of, customer, has_id, is_owned, is_same_ccy, nostro, number_of_first, vostro}
+use Rattle.day_model.specs.Chart.{Chart, account_at, accounts_of, has_id, is_owned, is_same_ccy, number_of_first}
+use Rattle.corr_ids.specs.Kinds.{customer, nostro, vostro}
 use Rattle.day_model.specs.Fit.{accounts_fit, is_listed}
 use Rattle.routing.specs.declared.ledger.Wanted.{Wanted}
 use Rattle.routing.specs.declared.ledger.Wanted.TheVariants.{Customer, Relation, Vostro, Nostro}

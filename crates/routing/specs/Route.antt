@@ -9,7 +9,8 @@ use Rattle.corr_ids.specs.declared.bic.Bic.{Bic}
 use Rattle.corr_ids.specs.declared.day.Day.{Day}
 use Rattle.corr_money.specs.declared.amount.Amount.{Amount}
 use Rattle.day_model.specs.declared.account.AcctNo.{AcctNo}
-use Rattle.day_model.specs.Chart.{Chart, nostro, vostro}
+use Rattle.day_model.specs.Chart.{Chart}
+use Rattle.corr_ids.specs.Kinds.{nostro, vostro}
 use Rattle.ssi_versions.specs.declared.method.Method.{Method}
 use Rattle.ssi_versions.specs.declared.method.Method.TheVariants as method
 use Rattle.ssi_versions.specs.declared.row.SsiRow.{SsiRow}

@@ -26,7 +26,8 @@ use Rattle.fin_contents.specs.Plain.{one_line}
 use Rattle.fin_contents.specs.declared.value.Value.{Value}
 use Rattle.fin_contents.proofs.laws.Bytes.{and-three}
 use Rattle.fin_contents.proofs.laws.Steps.{checked}
-use Rattle.day_model.specs.Chart.{Chart, IsChart, IsFormed, account_at, accounts_of, fee}
+use Rattle.day_model.specs.Chart.{Chart, IsChart, IsFormed, account_at, accounts_of}
+use Rattle.corr_ids.specs.Kinds.{fee}
 use Rattle.day_model.specs.Fit.{FitsAccounts, side_sum}
 use Rattle.day_model.specs.Shape.{HasShape, IsNumbered, IsOrder}
 use Rattle.day_model.specs.declared.account.Account.{Account}

@@ -19,7 +19,8 @@ use Rattle.corr_ids.specs.Bic.{IsBic, bic_text, is_bic}
 use Rattle.corr_ids.specs.declared.bic.Bic.{Bic}
 use Rattle.corr_ids.proofs.laws.Spelling.{bic-printed, some_if}
 use Rattle.day_model.specs.Balance.{balance_of, credits_of, debits_of}
-use Rattle.day_model.specs.Chart.{IsFormed, IsSmall, accounts_of, is_kind}
+use Rattle.day_model.specs.Chart.{IsFormed, IsSmall, accounts_of}
+use Rattle.corr_ids.specs.Kinds.{is_kind}
 use Rattle.day_model.proofs.laws.Changes.{list_all-then}
 use Rattle.desk_rows.specs.Csv.{commaed, is_bare, point_of, pointed, row_end, signed_pointed}
 use Rattle.desk_rows.specs.Plain.{RowsArePlain}

@@ -2,7 +2,8 @@
 use Rattle.std.specs.Prelude.{◌≡◌, ℕ, All, IfSome, IsTrue, List, Some, slice_get}
 use Rattle.corr_ids.specs.declared.envelope.Envelope.{Envelope}
 use Rattle.ref_tables.specs.Seen.{Tables, IsKnown}
-use Rattle.day_model.specs.Chart.{Chart, account_at, fee}
+use Rattle.day_model.specs.Chart.{Chart, account_at}
+use Rattle.corr_ids.specs.Kinds.{fee}
 use Rattle.day_model.specs.declared.account.Account.{Account}
 use Rattle.day_model.specs.declared.pay.Leg.{Leg}
 use Rattle.day_model.specs.declared.pay.Mt.{Mt}

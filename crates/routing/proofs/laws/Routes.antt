@@ -17,7 +17,8 @@ use Rattle.corr_money.specs.declared.amount.Amount.{Amount}
 use Rattle.ref_tables.specs.Seen.{Tables, has_head}
 use Rattle.day_model.specs.declared.account.Account.{Account}
 use Rattle.day_model.specs.declared.account.AcctNo.{AcctNo}
-use Rattle.day_model.specs.Chart.{Chart, account_at, accounts_of, customer, fee, has_id, is_owned, is_same_ccy, nostro, number_of_first, vostro}
+use Rattle.day_model.specs.Chart.{Chart, account_at, accounts_of, has_id, is_owned, is_same_ccy, number_of_first}
+use Rattle.corr_ids.specs.Kinds.{customer, fee, nostro, vostro}
 use Rattle.ssi_versions.specs.declared.method.Method.{Method}
 use Rattle.ssi_versions.specs.declared.method.Method.TheVariants as method
 use Rattle.ssi_versions.specs.declared.row.SsiRow.{SsiRow}

@@ -3,7 +3,8 @@ use Rattle.corr_money.specs.declared.amount.Amount.{Amount}
 use Rattle.corr_money.specs.declared.amount.Minor.{Minor}
 use Rattle.day_model.specs.declared.account.Account.{Account}
 use Rattle.day_model.specs.declared.account.AcctNo.{AcctNo}
-use Rattle.day_model.specs.Chart.{account_at, fee}
+use Rattle.day_model.specs.Chart.{account_at}
+use Rattle.corr_ids.specs.Kinds.{fee}
 use Rattle.routing.specs.Accounts.{fits_at}
 use Rattle.pay_plan.specs.Charging.{IsTaken}
 use Rattle.pay_plan.proofs.charging.charge_of.Goals as goal
