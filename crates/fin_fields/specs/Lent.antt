@@ -1,9 +1,9 @@
 -- The code's lines of a field, as the definitions see them.
-use Rattle.std.specs.Prelude.{ℕ, List, [], ◌∷◌}
+use Rattle.std.specs.Prelude.{ℕ, List}
 use Rattle.fin_fields.specs.declared.field_lines.Lines.{Lines}
-use Rattle.fin_fields.specs.declared.field_lines.Lines.TheVariants.{One, Listed}
+use Rattle.fin_fields.specs.declared.field_lines.Lines.TheVariants.{Few, Listed}
 
--- one line in its place, or a list
+-- a few lines in their place, or a list
 abbrev pub lines_in : Lines → List (List ℕ)
-lines_in (One line) = line ∷ []
+lines_in (Few lines) = lines.items
 lines_in (Listed lines) = lines

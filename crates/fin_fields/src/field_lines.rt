@@ -4,21 +4,25 @@ ghost use Rattle.std.specs.Prelude.{◌≡◌, ◌++◌, [], ◌∷◌, true, fa
 ghost use Rattle.std.specs.List.{list_any};
 ghost use Rattle.fin_fields.specs.Faults.{has_other_byte};
 ghost use Rattle.fin_fields.specs.Lent.{lines_in};
+ghost use Rattle.fin_fields.specs.inner.Lent.{HasRoom};
 
 use crate::field::Field;
 use crate::line::{Line, copy_lines};
+use arrayvec::ArrayVec;
 use corr_text::{List, Memory};
 use std::alloc::Global;
 use std::marker::Model;
-use std::slice;
 
-/// For how many lines there is room where a field gets a second one.
-const LINE_ROOM: usize = 4;
+/// How many lines a field has in their place.
+const FEW: usize = 2;
 
-/// The lines of a field: one in its place, or a list.
+/// For how many lines there is room where a field gets more than these.
+const LINE_ROOM: usize = 6;
+
+/// The lines of a field: a few in their place, or a list.
 #[derive(Debug, Drop)]
 enum Lines<'a> {
-    One(Line<'a>),
+    Few(ArrayVec<Line<'a>, FEW>),
     Listed(List<Line<'a>>),
 }
 
@@ -49,22 +53,67 @@ impl<'a> Model for FieldLines<'a> {
     ghost invariant = { λ f. f.plain ≡ true → list_any has_other_byte (lines_in f.lines) ≡ false };
 }
 
+/// A list of these lines and one more.
+#[inline(never)]
+fn listed<'a>(alloc: Global, few: &[Line<'a>], line: &'a [u8]) -> Result<List<Line<'a>>, Memory>
+    ensures { IfOk result (λ all. all ≡ few.now ++ line.now ∷ []) }
+{
+    let mut all = List::with_room(alloc, LINE_ROOM)?;
+    for known in few {
+        all.push(Line::of(known.bytes()))?;
+    }
+    all.push(Line::of(line))?;
+    Ok(all)
+}
+
+impl<'a> Lines<'a> {
+    /// The lines.
+    fn as_slice(&self) -> &[Line<'a>]
+        ensures { result.now ≡ lines_in self.now }
+    {
+        match self {
+            Lines::Few(lines) => lines.as_slice(),
+            Lines::Listed(lines) => lines.as_slice(),
+        }
+    }
+
+    /// Whether the lines stand in their place, and no more fit there.
+    fn is_full(&self) -> bool
+        ensures { result ≡ false → HasRoom self.now }
+    {
+        match self {
+            Lines::Few(lines) => lines.is_full(),
+            Lines::Listed(_) => false,
+        }
+    }
+
+    /// Adds a line after the others, where one more fits or memory is had for it.
+    fn push(&mut self, line: &'a [u8]) -> Result<(), Memory>
+        requires { HasRoom self.old }
+        ensures ok { OnOk result (lines_in self.new ≡ lines_in self.old ++ line.now ∷ []) }
+        ensures err { OnErr result (lines_in self.new ≡ lines_in self.old) }
+    {
+        match self {
+            Lines::Few(lines) => {
+                lines.push(Line::of(line));
+                Ok(())
+            }
+            Lines::Listed(lines) => lines.push(Line::of(line)),
+        }
+    }
+}
+
 /// Adds a line after the others; where there is no room, nothing is added.
 fn add_to<'a>(alloc: Global, lines: &mut Lines<'a>, line: &'a [u8]) -> Result<(), Memory>
     ensures ok { OnOk result (lines_in lines.new ≡ lines_in lines.old ++ line.now ∷ []) }
     ensures err { OnErr result (lines_in lines.new ≡ lines_in lines.old) }
 {
-    match lines {
-        Lines::Listed(all) => all.push(Line::of(line)),
-        Lines::One(first) => {
-            let first = first.bytes();
-            let mut all = List::with_room(alloc, LINE_ROOM)?;
-            all.push(Line::of(first))?;
-            all.push(Line::of(line))?;
-            *lines = Lines::Listed(all);
-            Ok(())
-        }
+    if lines.is_full() {
+        let all = listed(alloc, lines.as_slice(), line)?;
+        *lines = Lines::Listed(all);
+        return Ok(());
     }
+    lines.push(line)
 }
 
 impl<'a> FieldLines<'a> {
@@ -85,11 +134,13 @@ impl<'a> FieldLines<'a> {
         requires { plain ≡ true → has_other_byte line.now ≡ false }
         ensures { result ≡ record { tag = tag; letter = letter; lines = line.now ∷ [] } }
     {
+        let mut few = ArrayVec::new();
+        few.push(Line::of(line));
         FieldLines {
             tag,
             letter,
             plain,
-            lines: Lines::One(Line::of(line)),
+            lines: Lines::Few(few),
         }
     }
 
@@ -155,10 +206,7 @@ impl<'a> FieldLines<'a> {
     pub fn lines(&self) -> &[Line<'a>]
         ensures { result.now ≡ self.now.lines }
     {
-        match &self.lines {
-            Lines::One(line) => slice::from_ref(line),
-            Lines::Listed(lines) => lines.as_slice(),
-        }
+        self.lines.as_slice()
     }
 
     /// The field with lines of its own.

@@ -20,6 +20,12 @@ impl<'a> Model for Line<'a> {
     ghost view = { λ l. l.bytes.now };
 }
 
+impl Default for Line<'_> {
+    fn default() -> Self {
+        Line { bytes: &[] }
+    }
+}
+
 impl<'a> Line<'a> {
     /// These bytes as a line.
     pub fn of(bytes: &'a [u8]) -> Line<'a>
