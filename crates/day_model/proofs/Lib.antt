@@ -9,3 +9,4 @@ pub mod CoreLedgers
 pub mod CoreHoldings
 pub mod CoreSteps
 pub mod CoreReady
+pub mod Finding

@@ -14,7 +14,8 @@ use Rattle.corr_ids.specs.Bic.{bic_of}
 use Rattle.corr_ids.specs.declared.bic.Bic.{Bic}
 use Rattle.corr_money.specs.declared.amount.Ccy.{Ccy}
 use Rattle.day_model.specs.declared.account.Account.{Account}
-use Rattle.day_model.specs.Chart.{AreApart, AreEnds, AreRows, IsFormed, IsSameBank, is_same_ccy, is_kind, customer}
+use Rattle.day_model.specs.Chart.{AreApart, AreEnds, AreRows, IsFormed, is_same_ccy}
+use Rattle.corr_ids.specs.Kinds.{IsSameBank, customer, is_kind}
 use Rattle.day_model.proofs.laws.Fitting.{all_at}
 use Rattle.day_model.specs.RowTests.{agrees, are_ends, has_limits, is_same_bank, meets}
 use Rattle.day_model.specs.inner.RowTests.{all_apart, apart, is_formed, is_row, is_same_bic, reads_itself, rows_fit}
@@ -92,7 +93,7 @@ ends_sound floor ceil balance e =
 -- what two accounts that are apart have
 pub record Apart (a b : Account) : Type 0 where
   pub ids : a.id ≢ b.id
-  pub banks : IsSameBank a b → ⊥
+  pub banks : IsSameBank a.kind a.owner.head a.ccy.0 b.kind b.owner.head b.ccy.0 → ⊥
   pub decimals : a.ccy ≡ b.ccy → a.decimals ≡ b.decimals
 
 same_bytes : (xs ys : List ℕ) → xs ≡ ys → bytes_eq xs ys ≡ true
@@ -117,7 +118,7 @@ parted a b e =
           ∙ and_from (not (eqb a.kind customer) && eqb a.kind b.kind && bytes_eq a.owner.head b.owner.head) (is_same_ccy a.ccy b.ccy)
           (and_from (not (eqb a.kind customer) && eqb a.kind b.kind) (bytes_eq a.owner.head b.owner.head)
           (and_from (not (eqb a.kind customer)) (eqb a.kind b.kind) (not_from_false (eqb a.kind customer) (ne_eqb a.kind customer is.bank))
-          (eq-eqb a.kind b.kind is.kind)) (same_bytes a.owner.head b.owner.head is.head)) (same_bytes a.ccy.0 b.ccy.0 (ap (λ (c : Ccy). c.0) is.ccy)));
+          (eq-eqb a.kind b.kind is.kinds)) (same_bytes a.owner.head b.owner.head is.heads)) (same_bytes a.ccy.0 b.ccy.0 is.ccys));
       decimals = λ is. eqb-true _ _
           (same_decimals (is_same_ccy a.ccy b.ccy) (eqb a.decimals b.decimals) parts.1 (same_bytes a.ccy.0 b.ccy.0 (ap (λ (c : Ccy). c.0) is)));
     }
@@ -142,7 +143,7 @@ rows_sound accounts e =
           | inl lt ↦ absurd ((parted a b (apart_at accounts i j a b split.1 lt ati atj)).banks is)
           | inr gt ↦ absurd
               ((parted b a (apart_at accounts j i b a split.1 gt atj ati)).banks
-              (record { bank = λ z. is.bank (is.kind ∙ z); kind = sym is.kind; head = sym is.head; ccy = sym is.ccy }))
+              (record { bank = λ z. is.bank (is.kinds ∙ z); kinds = sym is.kinds; heads = sym is.heads; ccys = sym is.ccys }))
         ]
       ];
       decimals = λ i j a b ati atj is. elim (cases_order i j) [
@@ -212,16 +213,16 @@ ccy_of : (c d : Ccy) → is_same_ccy c d ≡ true → c ≡ d
 ccy_of c d e = let digits : c.0 ≡ d.0 = (bytes_eq-Decides c.0 d.0).0 e in ap (λ (bs : List ℕ). record { 0 = bs }) digits
 
 same_bank : (a b : Account) → (not (eqb a.kind customer) && eqb a.kind b.kind && bytes_eq a.owner.head b.owner.head && is_same_ccy a.ccy b.ccy) ≡ true
-    → IsSameBank a b
+    → IsSameBank a.kind a.owner.head a.ccy.0 b.kind b.owner.head b.ccy.0
 same_bank a b e =
     let ccy = and_parts (not (eqb a.kind customer) && eqb a.kind b.kind && bytes_eq a.owner.head b.owner.head) (is_same_ccy a.ccy b.ccy) e in
     let head = and_parts (not (eqb a.kind customer) && eqb a.kind b.kind) (bytes_eq a.owner.head b.owner.head) ccy.0 in
     let kind = and_parts (not (eqb a.kind customer)) (eqb a.kind b.kind) head.0 in
     record {
       bank = λ is. false≢true (sym (not-true (eqb a.kind customer) kind.0) ∙ eq-eqb a.kind customer is);
-      kind = eqb-true _ _ kind.1;
-      head = (bytes_eq-Decides a.owner.head b.owner.head).0 head.1;
-      ccy = ccy_of a.ccy b.ccy ccy.1;
+      kinds = eqb-true _ _ kind.1;
+      heads = (bytes_eq-Decides a.owner.head b.owner.head).0 head.1;
+      ccys = (bytes_eq-Decides a.ccy.0 b.ccy.0).0 ccy.1;
     }
 
 neither : (x y : Bool) → x ≡ false → y ≡ false → not (x || y) ≡ true

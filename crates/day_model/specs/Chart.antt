@@ -5,6 +5,7 @@ use Rattle.std.specs.List.{position_from, list_all}
 use Rattle.std.specs.Char.{is_ascii_uppercase}
 use Rattle.corr_text.specs.Sets.{is_c_byte}
 use Rattle.corr_ids.specs.Bic.{IsBic}
+use Rattle.corr_ids.specs.Kinds.{IsSameBank, customer, fee, is_kind, nostro, vostro}
 use Rattle.corr_ids.specs.declared.bic.Bic.{Bic}
 use Rattle.corr_money.specs.Amounts.{amount_end, most_decimals}
 use Rattle.corr_money.specs.declared.amount.Ccy.{Ccy}
@@ -71,32 +72,12 @@ abbrev pub is_owned : ℕ → List ℕ → Ccy → ℕ → Account → Bool
 is_owned kind head ccy decimals account =
     (account.kind == kind) && bytes_eq account.owner.head head && is_same_ccy account.ccy ccy && (account.decimals == decimals)
 
--- the letter C, of a customer's account
-abbrev pub customer : ℕ
-customer = 67
-
--- the letter V, of a bank's account with the home bank
-abbrev pub vostro : ℕ
-vostro = 86
-
--- the letter N, of the home bank's account with a bank
-abbrev pub nostro : ℕ
-nostro = 78
-
--- the letter F, of the home bank's account for charges
-abbrev pub fee : ℕ
-fee = 70
-
 -- the letter of a kind
 abbrev pub kind_letter : Kind → ℕ
 kind_letter Customer = customer
 kind_letter Vostro = vostro
 kind_letter Nostro = nostro
 kind_letter Fee = fee
-
--- one of the four letters
-abbrev pub is_kind : ℕ → Bool
-is_kind kind = (kind == customer) || (kind == vostro) || (kind == nostro) || (kind == fee)
 
 -- the form of an account's columns
 pub record IsFormed (account : Account) : Type 0 where
@@ -131,19 +112,12 @@ IsLimited account = AreEnds account.floor account.ceil account.opening
 abbrev pub IsBounded : Account → Type 0
 IsBounded account = IsSmall account.floor × IsSmall account.ceil
 
--- of one bank: vostro, nostro or fee accounts of one kind, owner's head and currency
-pub record IsSameBank (a b : Account) : Type 0 where
-  pub bank : a.kind ≢ customer
-  pub kind : a.kind ≡ b.kind
-  pub head : a.owner.head ≡ b.owner.head
-  pub ccy : a.ccy ≡ b.ccy
-
 -- at most 1,000 accounts in the form of their columns; ids and banks' accounts are distinct, and a currency has one number of decimals
 pub record AreApart (accounts : List Account) : Type 0 where
   pub few : length accounts ≤ most_accounts
   pub formed : (i : ℕ) (a : Account) → slice_get accounts i ≡ Some a → IsFormed a
   pub ids : (i j : ℕ) (a b : Account) → slice_get accounts i ≡ Some a → slice_get accounts j ≡ Some b → a.id ≡ b.id → i ≡ j
-  pub banks : (i j : ℕ) (a b : Account) → slice_get accounts i ≡ Some a → slice_get accounts j ≡ Some b → IsSameBank a b → i ≡ j
+  pub banks : (i j : ℕ) (a b : Account) → slice_get accounts i ≡ Some a → slice_get accounts j ≡ Some b → IsSameBank a.kind a.owner.head a.ccy.0 b.kind b.owner.head b.ccy.0 → i ≡ j
   pub decimals : (i j : ℕ) (a b : Account) → slice_get accounts i ≡ Some a → slice_get accounts j ≡ Some b → a.ccy ≡ b.ccy → a.decimals ≡ b.decimals
 
 -- what must hold of the accounts that a book begins with, but for the sums of their openings

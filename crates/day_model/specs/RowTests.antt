@@ -3,7 +3,8 @@ use Rattle.std.specs.Prelude.{◌==◌, ◌&&◌, ◌||◌, Bool, not, ℤ, pos,
 use Rattle.std.specs.Str.{bytes_eq}
 use Rattle.corr_money.specs.Amounts.{amount_end}
 use Rattle.day_model.specs.declared.account.Account.{Account}
-use Rattle.day_model.specs.Chart.{is_same_ccy, customer}
+use Rattle.day_model.specs.Chart.{is_same_ccy}
+use Rattle.corr_ids.specs.Kinds.{customer}
 
 -- floor, balance and ceiling are in order and small
 abbrev pub are_ends : ℤ → ℤ → ℤ → Bool

@@ -1,7 +1,6 @@
 //! The accounts of a book.
 
 ghost use Rattle.std.specs.Prelude.{◌≡◌, ◌≤◌, [], IfOk, IfErr, OnErr, OnOk, length};
-ghost use Rattle.std.specs.List.{position_from};
 ghost use Rattle.day_model.specs.Chart.{AreBalanced, AreRows, IsChart, IsListed, account_at, accounts_of, has_id, is_owned};
 ghost use Rattle.day_model.specs.Chart.{most_accounts, number_of_first, with_change};
 ghost use Rattle.day_model.specs.Gap.{TellsUnbalanced};
@@ -10,11 +9,12 @@ ghost use Rattle.corr_ids.specs.Bic.{IsBic};
 
 use crate::account::{Account, AcctNo};
 use crate::change::{Change, What};
-use crate::changing::{copy_changes, make};
-use crate::copy::{copy_accounts, copy_list};
+use crate::changing::copy_changes;
+use crate::copy::copy_list;
 use crate::fault::AccountsFault;
 use crate::gap::first_gap;
 use crate::history::History;
+use crate::listed::Listed;
 use corr_ids::Bic;
 use corr_money::Ccy;
 use corr_text::{List, Memory};
@@ -33,30 +33,7 @@ pub struct Accounts {
     home: Bic,
     first: List<Account>,
     changes: Vec<Change>,
-    rows: Vec<Account>,
-}
-
-fn first_of_id(accounts: &[Account], id: &[u8]) -> Option<usize>
-    ensures { result ≡ position_from (has_id id.now) 0 accounts.now }
-{
-    accounts.iter().position(|account| account.id.bytes() == id)
-}
-
-fn first_owned(
-    accounts: &[Account],
-    kind: u8,
-    head: &[u8; 8],
-    ccy: Ccy,
-    decimals: u8,
-) -> Option<usize>
-    ensures { result ≡ position_from (is_owned kind head.now ccy decimals) 0 accounts.now }
-{
-    accounts.iter().position(|account| {
-        account.kind == kind
-            && account.owner.head == *head
-            && account.ccy == ccy
-            && account.decimals == decimals
-    })
+    rows: Listed,
 }
 
 impl Model for Accounts {
@@ -66,14 +43,14 @@ impl Model for Accounts {
 
     ghost view = { λ a. record { home = a.home; first = a.first; changes = a.changes.items } };
 
-    ghost invariant = { λ a. KeepsRows (record { home = a.home; first = a.first; changes = a.changes.items }) a.rows.items };
+    ghost invariant = { λ a. KeepsRows (record { home = a.home; first = a.first; changes = a.changes.items }) a.rows };
 }
 
 impl Accounts {
     /// Accounts of a home bank without changes, numbered from 1 in the order of the rows, of which `rows_hold` is true.
     ///
     /// `Unbalanced` comes exactly where the openings of a currency don't sum to 0, for the first such currency in byte order.
-    /// `Memory`: there was no room for the sums or for the list after changes.
+    /// `Memory`: there was no room for the sums, or for the list after changes and its index.
     pub fn new(home: Bic, rows: List<Account>) -> Result<Accounts, AccountsFault>
         requires { AreRows rows }
         ensures ok { IfOk result (λ a. a ≡ record { home = home; first = rows; changes = [] }) }
@@ -85,7 +62,7 @@ impl Accounts {
             None => Ok(Accounts {
                 home,
                 changes: Vec::new(alloc),
-                rows: copy_accounts(alloc, rows.as_slice())?,
+                rows: Listed::of(alloc, rows.as_slice())?,
                 first: rows,
             }),
             Some(gap) => Err(AccountsFault::Unbalanced {
@@ -120,7 +97,7 @@ impl Accounts {
     {
         let after = h.len();
         self.changes.reserve(1)?;
-        make(&mut self.rows, &what)?;
+        self.rows.change(&what)?;
         self.changes.push_reserved(Change { after, what });
         Ok(())
     }
@@ -142,7 +119,7 @@ impl Accounts {
             home: self.home,
             first: copy_list(alloc, self.first.as_slice())?,
             changes: copy_changes(alloc, self.changes.as_slice())?,
-            rows: copy_accounts(alloc, self.rows.as_slice())?,
+            rows: Listed::of(alloc, self.rows.as_slice())?,
         })
     }
 
@@ -176,7 +153,7 @@ impl Accounts {
     pub fn find(&self, id: &[u8]) -> Option<AcctNo>
         ensures { result ≡ number_of_first (has_id id.now) (accounts_of self.now) }
     {
-        let at = first_of_id(self.after_changes(), id)?;
+        let at = self.rows.find(id)?;
         Some(AcctNo(at as u32 + 1))
     }
 
@@ -185,7 +162,7 @@ impl Accounts {
     pub fn owned(&self, kind: u8, head: &[u8; 8], ccy: Ccy, decimals: u8) -> Option<AcctNo>
         ensures { result ≡ number_of_first (is_owned kind head.now ccy decimals) (accounts_of self.now) }
     {
-        let at = first_owned(self.after_changes(), kind, head, ccy, decimals)?;
+        let at = self.rows.owned(kind, head, ccy, decimals)?;
         Some(AcctNo(at as u32 + 1))
     }
 }

@@ -1,12 +1,11 @@
 //! How changes are made, copied and refused.
 
-ghost use Rattle.std.specs.Prelude.{◌≡◌, ◌≤◌, ◌↔◌, IfOk, IsNone, OnErr, OnOk, length, pos};
+ghost use Rattle.std.specs.Prelude.{◌≡◌, ◌≤◌, ◌↔◌, IfOk, IsNone, length, pos};
 ghost use Rattle.std.specs.List.{list_all, position_from};
 ghost use Rattle.day_model.specs.Changes.{changed_by};
 ghost use Rattle.day_model.specs.Chart.{accounts_of, most_accounts};
 ghost use Rattle.day_model.specs.Fit.{is_in};
 ghost use Rattle.day_model.specs.Legal.{IsInForm, IsLegalChange};
-ghost use Rattle.day_model.specs.inner.Legal.{CanMake};
 ghost use Rattle.day_model.specs.Refusals.{begins_empty, met_by, refusal_of};
 ghost use Rattle.day_model.specs.RowTests.{agrees, meets};
 
@@ -17,33 +16,14 @@ use crate::rows::{agree, are_ends, has_limits, meet};
 use corr_text::Memory;
 use std::alloc::Global;
 
-fn set_ends(accounts: &mut Vec<Account>, n: AcctNo, floor: i64, ceil: i64)
+/// Puts a new floor and a new ceiling to an account.
+pub(crate) fn set_ends(accounts: &mut Vec<Account>, n: AcctNo, floor: i64, ceil: i64)
     requires { (1 ≤ n.0) × (n.0 ≤ length accounts.old.items) }
     ensures { accounts.new.items ≡ changed_by (What.Limits n floor ceil) accounts.old.items }
 {
     let account = &mut accounts[n.0 as usize - 1];
     account.floor = floor;
     account.ceil = ceil;
-}
-
-/// Makes a change in a list of accounts. Where memory runs out, the list is as it was.
-pub(crate) fn make(accounts: &mut Vec<Account>, what: &What) -> Result<(), Memory>
-    requires { CanMake accounts.old.items what.now }
-    ensures ok { OnOk result (accounts.new.items ≡ changed_by what.now accounts.old.items) }
-    ensures err { OnErr result (accounts.new.items ≡ accounts.old.items) }
-{
-    match what {
-        What::Opened(account) => {
-            let alloc = *accounts.allocator();
-            accounts.push(account.copy(alloc)?)?;
-        }
-        What::Limits {
-            account,
-            floor,
-            ceil,
-        } => set_ends(accounts, *account, *floor, *ceil),
-    }
-    Ok(())
 }
 
 impl What {

@@ -25,18 +25,7 @@ impl Account {
     }
 }
 
-/// The same accounts once more, as a vector.
-pub(crate) fn copy_accounts(alloc: Global, accounts: &[Account]) -> Result<Vec<Account>, Memory>
-    ensures { IfOk result (λ copies. copies.items ≡ accounts.now) }
-{
-    let mut copies = Vec::new(alloc);
-    for account in accounts {
-        copies.push(account.copy(alloc)?)?;
-    }
-    Ok(copies)
-}
-
-/// The same accounts once more, as a list.
+/// The same accounts once more.
 pub(crate) fn copy_list(alloc: Global, accounts: &[Account]) -> Result<List<Account>, Memory>
     ensures { IfOk result (λ copies. copies ≡ accounts.now) }
 {

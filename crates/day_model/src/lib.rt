@@ -22,6 +22,7 @@ mod gap;
 mod history;
 mod kind;
 mod law;
+mod listed;
 mod pay;
 mod reply;
 mod rows;

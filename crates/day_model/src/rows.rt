@@ -7,7 +7,8 @@ ghost use Rattle.corr_text.specs.Sets.{is_c_byte};
 ghost use Rattle.day_model.specs.RowTests.{agrees, are_ends, has_limits, is_same_bank, meets};
 ghost use Rattle.day_model.specs.inner.RowTests.{all_apart, apart, is_formed, is_row};
 ghost use Rattle.day_model.specs.inner.RowTests.{reads_itself, rows_fit};
-ghost use Rattle.day_model.specs.Chart.{AreRows, IsFormed, customer, is_kind};
+ghost use Rattle.day_model.specs.Chart.{AreRows, IsFormed};
+ghost use Rattle.corr_ids.specs.Kinds.{customer, is_kind};
 
 use crate::account::Account;
 use crate::accounts::MOST_ACCOUNTS;

@@ -230,9 +230,9 @@ limited_accounts accounts n floor ceil rows ends =
             let kind_w = ap (λ (x : Account). x.kind) w.still in
             rows.apart.banks i j v.old w.old v.at w.at (record {
               bank = λ is. same.bank (kind_v ∙ is);
-              kind = sym kind_v ∙ same.kind ∙ kind_w;
-              head = sym (ap (λ (x : Account). x.owner.head) v.still) ∙ same.head ∙ ap (λ (x : Account). x.owner.head) w.still;
-              ccy = sym (ap (λ (x : Account). x.ccy) v.still) ∙ same.ccy ∙ ap (λ (x : Account). x.ccy) w.still;
+              kinds = sym kind_v ∙ same.kinds ∙ kind_w;
+              heads = sym (ap (λ (x : Account). x.owner.head) v.still) ∙ same.heads ∙ ap (λ (x : Account). x.owner.head) w.still;
+              ccys = sym (ap (λ (x : Account). x.ccy.0) v.still) ∙ same.ccys ∙ ap (λ (x : Account). x.ccy.0) w.still;
             });
         decimals = λ i j a b at_i at_j same.
             let v = before i a at_i in

@@ -67,18 +67,18 @@ apart_push accounts account apart room formed beside = record {
     | inl old_i ↦ elim (in_pushed accounts account j b at_j) [
       | inl old_j ↦ apart.banks i j a b old_i old_j same
       | inr is_j ↦ absurd ((beside i a old_i).banks (record {
-        bank = λ z. same.bank (same.kind ∙ ap (λ (x : Account). x.kind) (sym is_j.1) ∙ z);
-        kind = ap (λ (x : Account). x.kind) is_j.1 ∙ sym same.kind;
-        head = ap (λ (x : Account). x.owner.head) is_j.1 ∙ sym same.head;
-        ccy = ap (λ (x : Account). x.ccy) is_j.1 ∙ sym same.ccy;
+        bank = λ z. same.bank (same.kinds ∙ ap (λ (x : Account). x.kind) (sym is_j.1) ∙ z);
+        kinds = ap (λ (x : Account). x.kind) is_j.1 ∙ sym same.kinds;
+        heads = ap (λ (x : Account). x.owner.head) is_j.1 ∙ sym same.heads;
+        ccys = ap (λ (x : Account). x.ccy.0) is_j.1 ∙ sym same.ccys;
       }))
     ]
     | inr is_i ↦ elim (in_pushed accounts account j b at_j) [
       | inl old_j ↦ absurd ((beside j b old_j).banks (record {
         bank = λ z. same.bank (ap (λ (x : Account). x.kind) (sym is_i.1) ∙ z);
-        kind = ap (λ (x : Account). x.kind) is_i.1 ∙ same.kind;
-        head = ap (λ (x : Account). x.owner.head) is_i.1 ∙ same.head;
-        ccy = ap (λ (x : Account). x.ccy) is_i.1 ∙ same.ccy;
+        kinds = ap (λ (x : Account). x.kind) is_i.1 ∙ same.kinds;
+        heads = ap (λ (x : Account). x.owner.head) is_i.1 ∙ same.heads;
+        ccys = ap (λ (x : Account). x.ccy.0) is_i.1 ∙ same.ccys;
       }))
       | inr is_j ↦ is_i.0 ∙ sym is_j.0
     ]

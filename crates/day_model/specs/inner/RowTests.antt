@@ -8,7 +8,8 @@ use Rattle.corr_ids.specs.Bic.{bic_of}
 use Rattle.corr_ids.specs.declared.bic.Bic.{Bic}
 use Rattle.corr_money.specs.Amounts.{most_decimals}
 use Rattle.day_model.specs.declared.account.Account.{Account}
-use Rattle.day_model.specs.Chart.{is_kind, most_accounts}
+use Rattle.day_model.specs.Chart.{most_accounts}
+use Rattle.corr_ids.specs.Kinds.{is_kind}
 use Rattle.day_model.specs.RowTests.{has_limits, meets, agrees}
 
 -- a BIC that is read, if any, is this one

@@ -7,8 +7,8 @@ use Rattle.day_model.specs.inner.Legal.{CanMake}
 use Rattle.day_model.proofs.laws.Changing.{can_make, keeps_with_change, last_change}
 use Rattle.day_model.proofs.accounts.Accounts.change.Goals as goal
 
-pub make-requires : goal.make-requires
-make-requires c =
+pub change-requires : goal.change-requires
+change-requires c =
     let chart : Chart = record { home = c.self.inside.home; first = c.self.inside.first; changes = c.self.inside.changes.items } in
     let entries = c.args.h.now.entries in
     let what = c.args.what in
@@ -28,5 +28,5 @@ invariant_of-self-2 c =
     c.push_reserved.ensures.items
     ∙ ap (λ (cs : List Change). cs ++ record { after = c.len-after.result; what = what } ∷ []) c.reserve.ensures.items
     ∙ ap (λ (n : ℕ). chart.changes ++ record { after = n; what = what } ∷ []) c.len-after.ensures.count in
-    keeps_with_change chart entries (length entries) what c.self.inside.rows.items c.make.new.accounts.items c.push_reserved.new.self.items c.self.invariant legal
-    c.in_ok-make.ensures.ok changes
+    keeps_with_change chart entries (length entries) what c.self.inside.rows c.change.new.self c.push_reserved.new.self.items c.self.invariant legal
+    c.in_ok-change.ensures.ok changes

@@ -11,4 +11,4 @@ invariant_of-result c =
     let balanced : AreBalanced c.args.rows =
     subst (λ (l : List Account). FirstGap l None) c.as_slice.ensures
     (subst (λ (o : Option Gap). FirstGap c.as_slice.result.now o) c.in-None.is c.in_ok-first_gap.ensures) in
-    keeps_first _ c.in_ok-copy_accounts-in-None.field-0.items c.new.ensures.items c.requires balanced (c.in_ok-copy_accounts-in-None.ensures ∙ c.as_slice-in-None.ensures)
+    keeps_first _ c.in_ok-of-in-None.field-0 c.new.ensures.items c.requires balanced (c.in_ok-of-in-None.ensures ∙ c.as_slice-in-None.ensures)
