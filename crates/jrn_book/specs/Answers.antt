@@ -18,6 +18,7 @@ use Rattle.jrn_book.specs.declared.answer.Committed.{Committed}
 use Rattle.jrn_book.specs.declared.answer.Committed.TheVariants.{New, Kept}
 use Rattle.jrn_book.specs.declared.answer.CommitFault.{CommitFault}
 use Rattle.jrn_book.specs.declared.answer.CommitFault.TheVariants.{Conflict, Full, DiskFault, Broken, Memory}
+use Rattle.jrn_book.specs.Journal.{file_of}
 
 -- what a commit answers
 abbrev pub Answer : Type 0
@@ -42,6 +43,15 @@ pub record HasRoomFor (history : List Entry) (end need : ℕ) : Type 0 where
 -- there is none
 abbrev pub IsFull : List Entry → ℕ → ℕ → Type 0
 IsFull history end need = (length history ≡ most_entries) ⊎ (most_disk_bytes < end + need)
+
+-- A pay is new after a history and finds no room there, since it has the most entries, or the file would have more than 2^30 bytes.
+-- The numbers are those of that history: how many entries, the place of the closed gate, and the bytes that this pay needs.
+pub record FindsNoRoom (chart : Chart) (history : List Entry) (pay : Pay) (day : Day) (entries end need : ℕ) : Type 0 where
+  pub new : entered_at pay.mir history ≡ None
+  pub entries_are : entries ≡ length history
+  pub end_is : end + 1 ≡ length (file_of chart history)
+  pub need_is : need ≡ need_of chart history pay day
+  pub full : IsFull history end need
 
 -- What an answer to a pay on a day tells of the history before it, the place `end` of the closed gate, and the disk's count of
 -- faults at the opening, before the call and after it. Each case says that those before it in the order don't hold: a commit

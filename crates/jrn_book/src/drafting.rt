@@ -15,7 +15,7 @@ ghost use Rattle.day_model.specs.Shape.{HasShape};
 ghost use Rattle.day_model.specs.Totals.{booked_legs};
 ghost use Rattle.day_model.specs.declared.entry.Entry.{Entry as TheEntry};
 ghost use Rattle.jrn_file.specs.Reading.{with_length};
-ghost use Rattle.jrn_codec.specs.Record.{IsEntry, entry_bytes};
+ghost use Rattle.jrn_codec.specs.Record.{IsEntry, entry_bytes, most_record_bytes};
 ghost use Rattle.jrn_book.specs.Answers.{AnswerShows, IsFull, history_after};
 ghost use Rattle.jrn_book.specs.inner.Appending.{Repeats};
 ghost use Rattle.jrn_book.specs.Batches.{AnswersInTurn, gate_of, most_batch};
@@ -27,13 +27,13 @@ ghost use Rattle.jrn_book.specs.Journal.{file_of};
 use crate::answer::{CommitFault, Committed};
 use crate::deciding::decide_by_pairs;
 use crate::index::Index;
-use crate::room::most_bytes;
+use crate::room::{most_bytes, put_record};
 use crate::turning::turned;
 use corr_disk::MOST_DISK_BYTES;
 use corr_ids::Day;
 use corr_text::{Buf, Memory};
 use day_model::{Accounts, Entry, History, MOST_ENTRIES, Pay, add_legs, legs_booked};
-use jrn_codec::{put_entry, record_len};
+use jrn_codec::record_len;
 use std::alloc::Global;
 
 /// New entries, and their records, each after an open gate and its length.
@@ -72,25 +72,28 @@ impl Draft {
     }
 }
 
-/// Puts the record of an entry behind those that are there: after an open gate and its length.
-fn put_record(frames: &mut Buf, e: &Entry)
+/// Puts the record of an entry, which has so many bytes, behind those that are there: after an open gate and its length.
+fn put_gated(frames: &mut Buf, e: &Entry, len: u64)
     requires shape { HasShape e.now.pay }
     requires day { InCentury e.now.day }
+    requires len { len ≡ length (entry_bytes e.now) }
+    requires few { len ≤ most_record_bytes }
     requires room { length (entry_bytes e.now) + 5 ≤ frames.old.spare }
     ensures frames { frames.new.bytes ≡ frames.old.bytes ++ 1 ∷ with_length (entry_bytes e.now) }
     ensures written { IsEntry e.now }
     ensures left { frames.old.spare ≤ frames.new.spare + (length (entry_bytes e.now) + 5) }
 {
-    let len = record_len(e) as u32;
     frames.push(&[1]).unwrap();
-    frames.push(&len.to_be_bytes()).unwrap();
-    put_entry(e, frames).unwrap();
+    put_record(frames, e, len);
 }
 
-/// Adds an entry to a draft, its reference to the index and its legs to the pairs, for all of which there is room.
-fn add(index: &mut Index, pairs: &mut Vec<(u64, u64)>, draft: &mut Draft, e: Entry)
+/// Adds an entry, whose record has so many bytes, to a draft, its reference to the index and its legs to the pairs, for all of which
+/// there is room.
+fn add(index: &mut Index, pairs: &mut Vec<(u64, u64)>, draft: &mut Draft, e: Entry, len: u64)
     requires shape { HasShape e.pay }
     requires day { InCentury e.day }
+    requires len { len ≡ length (entry_bytes e) }
+    requires few { len ≤ most_record_bytes }
     requires listed { All (λ leg. (1 ≤ leg.account.0) × (leg.account.0 ≤ length pairs.old.items)) (booked_legs e) }
     requires fits { PairsFit (booked_legs e) pairs.old.items }
     requires new { place_in e.pay.mir.0 index.old.references ≡ None }
@@ -108,7 +111,7 @@ fn add(index: &mut Index, pairs: &mut Vec<(u64, u64)>, draft: &mut Draft, e: Ent
 {
     add_legs(pairs, legs_booked(&e));
     index.push(&e.pay.mir).unwrap();
-    put_record(&mut draft.frames, &e);
+    put_gated(&mut draft.frames, &e, len);
     draft.entries.push_reserved(e);
 }
 
@@ -164,8 +167,9 @@ fn draft_new(
     };
     let entries = h.len() + draft.entries.len() as u32;
     let end = start + draft.frames.bytes().len() as u64;
-    find_room(entries, end, record_len(&e) + 6)?;
-    add(index, pairs, draft, e);
+    let size = record_len(&e);
+    find_room(entries, end, size + 6)?;
+    add(index, pairs, draft, e, size);
     Ok(Committed::New {
         place: entries + 1,
         outcome,

@@ -27,7 +27,7 @@ use crate::reading::read_records;
 use crate::version::Version;
 use acct_locks::Loose;
 use corr_disk::Disk;
-use corr_text::{Memory, Text};
+use corr_text::{Memory, Text, let_go};
 use day_model::{Accounts, History};
 use jrn_file::{Ending, JFile, OpenFault, read_file};
 use std::alloc::Global;
@@ -208,7 +208,10 @@ fn refusal(alloc: Global, version: Version, records: &[Text], at: u64) -> OpenFa
     ensures bytes { IsOfBytes result }
 {
     match read_records(alloc, version, records) {
-        Ok(_) => OpenFault::Damaged { at },
+        Ok(past) => {
+            let_go(past);
+            OpenFault::Damaged { at }
+        }
         Err(fault) => fault,
     }
 }

@@ -1,27 +1,27 @@
 //! Room for one commit.
 
-ghost use Rattle.std.specs.Prelude.{◌≡◌, ◌+◌, ◌<◌, ◌≤◌, ◌^◌, [], length, IfOk, IsOk, IsTrue};
+ghost use Rattle.std.specs.Prelude.{◌≡◌, ◌+◌, ◌<◌, ◌≤◌, ◌^◌, ◌++◌, [], length, IfOk, IsOk, IsTrue};
 ghost use Rattle.std.specs.Bool.{OnTrue};
 ghost use Rattle.corr_ids.specs.Day.{InCentury};
 ghost use Rattle.day_model.specs.Shape.{HasShape};
 ghost use Rattle.jrn_file.specs.Journal.{frame_of};
+ghost use Rattle.jrn_file.specs.Reading.{with_length};
 ghost use Rattle.jrn_codec.specs.Record.{IsEntry, entry_bytes, most_record_bytes};
 ghost use Rattle.jrn_book.specs.Room.{longest_record};
 
 use corr_ids::Day;
 use corr_text::{Buf, Memory};
 use day_model::{Entry, Leg, Outcome, Pay};
-use jrn_codec::put_entry;
+use jrn_codec::{put_entry, record_len};
 use std::alloc::Global;
 use std::marker::Model;
 
-/// What one commit of a pay takes: a copy of it, and room for its record and for the record's frame.
+/// What one commit of a pay takes: a copy of it, and room for its record's frame.
 ///
 /// Contracts see the pay.
 #[derive(Drop)]
 pub(crate) struct Room {
     pay: Pay,
-    body: Buf,
     frame: Buf,
 }
 
@@ -35,7 +35,7 @@ impl Model for Room {
 
     ghost view = { λ r. r.pay };
 
-    ghost invariant = { λ r. HasShape r.pay × (r.body.bytes ≡ []) × (r.frame.bytes ≡ []) × (longest_record r.pay ≤ r.body.spare) × (longest_record r.pay + 5 ≤ r.frame.spare) };
+    ghost invariant = { λ r. HasShape r.pay × (r.frame.bytes ≡ []) × (longest_record r.pay + 5 ≤ r.frame.spare) };
 }
 
 /// Puts a record into an empty buffer as it is appended: its length in four bytes, the record and a byte 0.
@@ -49,6 +49,22 @@ pub(crate) fn put_frame(frame: &mut Buf, body: &[u8]) -> Result<(), Memory>
     frame.push(&(body.len() as u32).to_be_bytes())?;
     frame.push(body)?;
     frame.push(&[0])
+}
+
+/// Adds the record of an entry, which has so many bytes, after its length. There is room for it.
+pub(crate) fn put_record(out: &mut Buf, e: &Entry, len: u64)
+    requires shape { HasShape e.now.pay }
+    requires day { InCentury e.now.day }
+    requires len { len ≡ length (entry_bytes e.now) }
+    requires few { len ≤ most_record_bytes }
+    requires room { len + 4 ≤ out.old.spare }
+    ensures added { out.new.bytes ≡ out.old.bytes ++ with_length (entry_bytes e.now) }
+    ensures written { IsEntry e.now }
+    ensures left { out.old.spare ≤ out.new.spare + (len + 4) }
+{
+    let len = len as u32;
+    out.push(&len.to_be_bytes()).unwrap();
+    put_entry(e, out).unwrap();
 }
 
 /// The most bytes that an order takes in a record.
@@ -73,14 +89,10 @@ impl Room {
         requires shape { HasShape p.now }
         ensures pay { IfOk result (λ room. room ≡ p.now) }
     {
-        let most = most_bytes(p);
-        let mut body = Buf::new(alloc);
-        body.reserve(most)?;
         let mut frame = Buf::new(alloc);
-        frame.reserve(most + 5)?;
+        frame.reserve(most_bytes(p) + 5)?;
         Ok(Room {
             pay: p.copy(alloc)?,
-            body,
             frame,
         })
     }
@@ -108,14 +120,11 @@ impl Room {
         ensures frame { result.1.bytes ≡ frame_of (entry_bytes result.0) }
         ensures few { length (entry_bytes result.0) ≤ most_record_bytes }
     {
-        let Room {
-            pay,
-            mut body,
-            mut frame,
-        } = self;
+        let Room { pay, mut frame } = self;
         let entry = Entry { pay, day, outcome };
-        put_entry(&entry, &mut body).unwrap();
-        put_frame(&mut frame, body.bytes()).unwrap();
+        let len = record_len(&entry);
+        put_record(&mut frame, &entry, len);
+        frame.push(&[0]).unwrap();
         (entry, frame)
     }
 }

@@ -50,11 +50,11 @@ returns-in_err-find_room-clause-shows c = λ at_open now.
     let count : c.len.result + c.len-2.result ≡ length all = omega (arith, c.len.ensures.count, c.len-2.ensures, c.args.draft.now.entries.ok.0, length-append h es) in
     let place = end_is chart h day es c.args.draft.now.frames.bytes c.args.index.now.references c.args.pairs.now.items c.args.start c.requires.legal.changes.by_now drafted c.requires.start in
     let gate : c.args.start + length c.bytes.result.now ≡ gate_of chart all = omega (arith, place, ap length c.bytes.ensures) in
-    let need : c.record_len.result + 6 ≡ need_of chart all p day = omega (arith, c.record_len.ensures.len, ap (λ (x : Entry). length (entry_bytes x)) is) in
+    let need : c.record_len-size.result + 6 ≡ need_of chart all p day = omega (arith, c.record_len-size.ensures.len, ap (λ (x : Entry). length (entry_bytes x)) is) in
     let fault = c.in_err-find_room.ensures.fault in
     let answer : c.from_residual.result ≡ Err c.in_err-find_room.field-0.0 = search rules in
-    let full : IsFull all (c.args.start + length c.bytes.result.now) (c.record_len.result + 6) =
-    ⊎_elim (λ (most : c.len.result + c.len-2.result ≡ 100000). inl (sym count ∙ most)) (λ (past : most_disk_bytes < (c.args.start + length c.bytes.result.now) + (c.record_len.result + 6)). inr past) fault.1 in
+    let full : IsFull all (c.args.start + length c.bytes.result.now) (c.record_len-size.result + 6) =
+    ⊎_elim (λ (most : c.len.result + c.len-2.result ≡ 100000). inl (sym count ∙ most)) (λ (past : most_disk_bytes < (c.args.start + length c.bytes.result.now) + (c.record_len-size.result + 6)). inr past) fault.1 in
     subst (λ (x : Answer). AnswerShows chart all p day (gate_of chart all) None at_open now now x) (sym (answer ∙ ap (λ (x : CommitFault). Err x) fault.0))
     (refl, c.requires.new, count, gate, need, full, refl)
 
@@ -75,7 +75,7 @@ add-requires-clause-listed c =
     let count : c.len.result + c.len-2.result ≡ length all = omega (arith, c.len.ensures.count, c.len-2.ensures, c.args.draft.now.entries.ok.0, length-append h es) in
     let place = end_is chart h day es c.args.draft.now.frames.bytes c.args.index.now.references c.args.pairs.now.items c.args.start c.requires.legal.changes.by_now drafted c.requires.start in
     let gate : c.args.start + length c.bytes.result.now ≡ gate_of chart all = omega (arith, place, ap length c.bytes.ensures) in
-    let need : c.record_len.result + 6 ≡ need_of chart all p day = omega (arith, c.record_len.ensures.len, ap (λ (x : Entry). length (entry_bytes x)) is) in
+    let need : c.record_len-size.result + 6 ≡ need_of chart all p day = omega (arith, c.record_len-size.ensures.len, ap (λ (x : Entry). length (entry_bytes x)) is) in
     let room = c.in_ok-find_room.ensures.room in
     let few : length all < 100000 = omega (arith, room.0, count) in
     let same : day.0 ≤ℤ day.0 = omega (arith, ints) in
@@ -101,7 +101,7 @@ add-requires-clause-fits c =
     let count : c.len.result + c.len-2.result ≡ length all = omega (arith, c.len.ensures.count, c.len-2.ensures, c.args.draft.now.entries.ok.0, length-append h es) in
     let place = end_is chart h day es c.args.draft.now.frames.bytes c.args.index.now.references c.args.pairs.now.items c.args.start c.requires.legal.changes.by_now drafted c.requires.start in
     let gate : c.args.start + length c.bytes.result.now ≡ gate_of chart all = omega (arith, place, ap length c.bytes.ensures) in
-    let need : c.record_len.result + 6 ≡ need_of chart all p day = omega (arith, c.record_len.ensures.len, ap (λ (x : Entry). length (entry_bytes x)) is) in
+    let need : c.record_len-size.result + 6 ≡ need_of chart all p day = omega (arith, c.record_len-size.ensures.len, ap (λ (x : Entry). length (entry_bytes x)) is) in
     let room = c.in_ok-find_room.ensures.room in
     let few : length all < 100000 = omega (arith, room.0, count) in
     let same : day.0 ≤ℤ day.0 = omega (arith, ints) in
@@ -137,7 +137,7 @@ returns-clause-drafted c =
     let count : c.len.result + c.len-2.result ≡ length all = omega (arith, c.len.ensures.count, c.len-2.ensures, c.args.draft.now.entries.ok.0, length-append h es) in
     let place = end_is chart h day es c.args.draft.now.frames.bytes c.args.index.now.references c.args.pairs.now.items c.args.start c.requires.legal.changes.by_now drafted c.requires.start in
     let gate : c.args.start + length c.bytes.result.now ≡ gate_of chart all = omega (arith, place, ap length c.bytes.ensures) in
-    let need : c.record_len.result + 6 ≡ need_of chart all p day = omega (arith, c.record_len.ensures.len, ap (λ (x : Entry). length (entry_bytes x)) is) in
+    let need : c.record_len-size.result + 6 ≡ need_of chart all p day = omega (arith, c.record_len-size.ensures.len, ap (λ (x : Entry). length (entry_bytes x)) is) in
     let room = c.in_ok-find_room.ensures.room in
     let few : length all < 100000 = omega (arith, room.0, count) in
     let same : day.0 ≤ℤ day.0 = omega (arith, ints) in
@@ -145,7 +145,7 @@ returns-clause-drafted c =
     let legal = draft_legal chart h day es c.args.draft.now.frames.bytes c.args.index.now.references c.args.pairs.now.items p e drafted is c.requires.fits latest few c.requires.new in
     let added = c.add.ensures in
     let file = file_more chart all e drafted.legal.changes.by_now in
-    let fits : length (file_of chart (all ++ e ∷ [])) ≤ most_disk_bytes = omega (arith, file, room.1, place, ap length c.bytes.ensures, c.record_len.ensures.len) in
+    let fits : length (file_of chart (all ++ e ∷ [])) ≤ most_disk_bytes = omega (arith, file, room.1, place, ap length c.bytes.ensures, c.record_len-size.ensures.len) in
     let more = draft_more chart h day es c.args.draft.now.frames.bytes c.args.index.now.references c.args.pairs.now.items p e drafted is legal added.written fits in
     subst (λ (x : List Entry × (List ℕ × (List (List ℕ) × List Pair))). IsDrafted chart h day x.0 x.1.0 x.1.1.0 x.1.1.1) (λ i. (sym added.entries i, (sym added.frames i, (sym added.index i, sym added.pairs i)))) more
 
@@ -166,7 +166,7 @@ returns-clause-history c =
     let count : c.len.result + c.len-2.result ≡ length all = omega (arith, c.len.ensures.count, c.len-2.ensures, c.args.draft.now.entries.ok.0, length-append h es) in
     let place = end_is chart h day es c.args.draft.now.frames.bytes c.args.index.now.references c.args.pairs.now.items c.args.start c.requires.legal.changes.by_now drafted c.requires.start in
     let gate : c.args.start + length c.bytes.result.now ≡ gate_of chart all = omega (arith, place, ap length c.bytes.ensures) in
-    let need : c.record_len.result + 6 ≡ need_of chart all p day = omega (arith, c.record_len.ensures.len, ap (λ (x : Entry). length (entry_bytes x)) is) in
+    let need : c.record_len-size.result + 6 ≡ need_of chart all p day = omega (arith, c.record_len-size.ensures.len, ap (λ (x : Entry). length (entry_bytes x)) is) in
     ap (λ (l : List Entry). h ++ l) c.add.ensures.entries ∙ sym (append_assoc h es (e ∷ [])) ∙ ap (λ (x : Entry). all ++ x ∷ []) is ∙ sym (next_new chart all p day c.requires.new)
 
 pub returns-clause-shows : goal.returns-clause-shows
@@ -186,7 +186,7 @@ returns-clause-shows c = λ at_open now.
     let count : c.len.result + c.len-2.result ≡ length all = omega (arith, c.len.ensures.count, c.len-2.ensures, c.args.draft.now.entries.ok.0, length-append h es) in
     let place = end_is chart h day es c.args.draft.now.frames.bytes c.args.index.now.references c.args.pairs.now.items c.args.start c.requires.legal.changes.by_now drafted c.requires.start in
     let gate : c.args.start + length c.bytes.result.now ≡ gate_of chart all = omega (arith, place, ap length c.bytes.ensures) in
-    let need : c.record_len.result + 6 ≡ need_of chart all p day = omega (arith, c.record_len.ensures.len, ap (λ (x : Entry). length (entry_bytes x)) is) in
+    let need : c.record_len-size.result + 6 ≡ need_of chart all p day = omega (arith, c.record_len-size.ensures.len, ap (λ (x : Entry). length (entry_bytes x)) is) in
     let room = c.in_ok-find_room.ensures.room in
     (refl, c.requires.new, record { entries = omega (arith, room.0, count); bytes = omega (arith, room.1, gate, need) }, omega (arith, count), outcome, refl)
 
