@@ -312,7 +312,7 @@ module _ {D : Type 0} (disk : disks.Ghosts D) (o : Opening) (past : ℕ → List
       let is : b.history ≡ known_to o new = as_known old new None (Err (Full entries end need)) s m refl in
       subst (λ (x : Chart × List Entry). ShowsFull (record o { accounts = x.0 }) pay x.1 entries end need) (λ i. (s.accounts i, is i))
       record {
-        missing = shows.1;
+        new = shows.1;
         entries_are = shows.2;
         end_is = let p = e.place shows.0 in omega (arith, shows.3, p);
         need_is = shows.4;

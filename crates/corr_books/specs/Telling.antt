@@ -10,7 +10,7 @@ use Rattle.day_model.specs.Legal.{IsLegal}
 use Rattle.day_model.specs.Next.{entered_at}
 use Rattle.front_word.specs.declared.view.Act.{Act}
 use Rattle.front_word.specs.Known.{PassKnows, with_place}
-use Rattle.jrn_book.specs.Answers.{Answer, HasRoomFor, IsAnswered, IsFull, StandsAt, need_of}
+use Rattle.jrn_book.specs.Answers.{Answer, FindsNoRoom, HasRoomFor, IsAnswered, StandsAt, need_of}
 use Rattle.jrn_book.specs.Journal.{file_of}
 use Rattle.jrn_book.specs.declared.answer.Committed.TheVariants.{New, Kept}
 use Rattle.jrn_book.specs.declared.answer.CommitFault.TheVariants.{Conflict, Full, DiskFault, Broken, Memory}
@@ -56,14 +56,9 @@ pub record IsAdded (o : Opening) (pay : Pay) (old new : PassKnows) (place : ℕ)
   pub room : ShowsRoom o pay (history_of o.base (take at new.known))
   pub alone : (i : ℕ) (a : Act) → slice_get new.known i ≡ Some a → length old.known ≤ i → a.by ≡ old.number → i ≡ at
 
--- The history that the pass knows lacks the reference and has no room for the pay: its number of entries, the place of the closed
--- gate of its file, and the bytes that the pay's record needs after it.
-pub record ShowsFull (o : Opening) (pay : Pay) (history : List Entry) (entries end need : ℕ) : Type 0 where
-  pub missing : entered_at pay.mir history ≡ None
-  pub entries_are : entries ≡ length history
-  pub end_is : end + 1 ≡ length (file_of o.accounts history)
-  pub need_is : need ≡ need_of o.accounts history pay o.day
-  pub full : IsFull history end need
+-- the pay is new after this history and finds no room there, on the day and for the accounts of the books
+abbrev pub ShowsFull : Opening → Pay → List Entry → ℕ → ℕ → ℕ → Type 0
+ShowsFull o pay history entries end need = FindsNoRoom o.accounts history pay o.day entries end need
 
 -- What each answer says, shown by what the pass knows then: New, the entry that was added; Kept, the same pay at the place, with
 -- the outcome; Conflict, another pay with its reference; Full, that there is no room; DiskFault, that the reference is missing, that

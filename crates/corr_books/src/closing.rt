@@ -64,8 +64,26 @@ impl<N: BooksName, D: Disk> Books<N, D> {
                 made,
             });
         }
+        Ok(self.close_all(passes))
+    }
+
+    /// Takes all passes back, and closes the books. Takes no memory.
+    ///
+    /// These books made each pass, and no others than these.
+    pub fn close_all(self, passes: Vec<Pass>) -> Closed<D>
+        requires passes { AllBelong N.opening passes.items }
+        requires all { vec_len passes ≡ N.opening.made }
+
+        // What `close` says where it answers.
+        ensures closes { Closes N.opening result.history.entries (D.faults result.disk) passes.items }
+        ensures accounts { result.accounts ≡ N.opening.accounts }
+        ensures journal { IsJournal result.accounts result.history.entries }
+        ensures disk { LeavesClosed D.Disk N.opening result.history.entries result.disk }
+        ensures honest { D.honest result.disk ≡ N.opening.honest }
+        ensures any_moment { LeavesInTurn D.Disk N.opening N.past result.history.entries result.disk }
+    {
         let Books { front, stand, .. } = self;
-        Ok(finish(stand.into_inner(), &front, passes))
+        finish(stand.into_inner(), &front, passes)
     }
 }
 

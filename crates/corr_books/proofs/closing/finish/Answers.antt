@@ -1,10 +1,13 @@
-use Rattle.std.proofs.Common.{◌≡◌, List, length, ap, arith, subst, sym}
+use Rattle.std.proofs.Common.{◌≡◌, ◌∙◌, List, length, ap, arith, subst, sym}
 use Rattle.day_model.specs.declared.entry.Entry.{Entry}
 use Rattle.day_model.specs.Chart.{Chart}
 use Rattle.jrn_book.specs.Journal.{IsJournal}
 use Rattle.corr_books.specs.Closing.{LeavesClosed, LeavesInTurn}
 use Rattle.corr_books.proofs.Closes.{closes, in_turn, leaves}
 use Rattle.corr_books.proofs.closing.finish.Goals as goal
+
+pub take_all-requires-clause-passes : goal.take_all-requires-clause-passes
+take_all-requires-clause-passes g c = λ k p at. (c.requires.passes k p at).table ∙ sym c.requires.front
 
 pub returns-clause-closes : goal.returns-clause-closes
 returns-clause-closes g c =
