@@ -3,7 +3,8 @@ use Rattle.std.specs.Prelude.{ℕ, ◌==◌, Bool, false, List, [], ◌++◌, So
 use Rattle.std.specs.List.{list_any}
 use Rattle.std.specs.Str.{bytes_eq}
 use Rattle.corr_report.specs.Lines.{numbered}
-use Rattle.day_model.specs.Chart.{Chart, accounts_of, nostro}
+use Rattle.day_model.specs.Chart.{Chart, accounts_of}
+use Rattle.corr_ids.specs.Kinds.{nostro}
 use Rattle.day_model.specs.declared.account.Account.{Account}
 use Rattle.desk_page.specs.declared.mark.Piece.{Piece}
 use Rattle.desk_page.specs.declared.mark.Piece.TheVariants as piece

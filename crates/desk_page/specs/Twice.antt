@@ -47,6 +47,7 @@ unfoldable pub twice_line : ℕ → Payment → List ℕ
 twice_line n p =
     markup piece.RowBegin ++ number_cell n ++ cell p.mir.0 ++ bank_cell p.sender ++ cell p.reference ++ amount_cell p.amount ++ markup piece.RowEnd
 
+-- the same of a message that may ask for no payment: then it has no row
 abbrev pub twice_row : ℕ → Row → List ℕ
 twice_row n (Asks payment standing) = twice_line n payment
 twice_row n (Refused mir fault) = []

@@ -1,7 +1,7 @@
 //! The markup of a page.
 
 ghost use Rattle.std.specs.Prelude.{◌≡◌};
-ghost use Rattle.desk_page.specs.Markup.{markup};
+ghost use Rattle.desk_page.specs.Markup.{cell_markup, heading_markup, markup, table_markup, word_markup};
 
 /// A piece of markup that every page has, or may have. None depends on what was read.
 #[derive(Clone, Copy, Debug, PartialEq, Eq)]
@@ -150,6 +150,16 @@ pub(crate) fn mark(piece: Piece) -> &'static [u8]
         Piece::HeadEnd => b"</h1>\n",
         Piece::On => b" on ",
         Piece::PageEnd => b"</body>\n</html>\n",
+        _ => heading(piece),
+    }
+}
+
+/// A heading, or a piece of one; of another piece what it is by those of tables and cells.
+#[tactic(auto, unfolding(crate::specs::Markup::heading_markup))]
+fn heading(piece: Piece) -> &'static [u8]
+    ensures { result.now ≡ heading_markup piece }
+{
+    match piece {
         Piece::Needs => b"<h2>Needs somebody</h2>\n",
         Piece::MendTitle => {
             b"<h3>Tell the sender what is faulty, to mend it and to send it again</h3>\n"
@@ -172,13 +182,35 @@ pub(crate) fn mark(piece: Piece) -> &'static [u8]
         }
         Piece::NothingTitle => b"<h2>Nothing to do</h2>\n",
         Piece::OrderTitle => b"<h2>In order</h2>\n",
+        Piece::Accounts => b"<h2>Accounts</h2>\n",
+        Piece::CurrencyBegin => b"<h3>",
+        Piece::CurrencyEnd => b"</h3>\n",
+        _ => table_mark(piece),
+    }
+}
+
+/// A piece of a table around its cells; of another piece what it is by those of cells.
+#[tactic(auto, unfolding(crate::specs::Markup::table_markup))]
+fn table_mark(piece: Piece) -> &'static [u8]
+    ensures { result.now ≡ table_markup piece }
+{
+    match piece {
+        Piece::AheadBegin => {
+            b"<h2>Booked ahead of the value date</h2>\n<table>\n<tr><th>Place</th><th>Reference</th><th>Booked on</th><th>Value date</th><th>Account</th><th>Amount</th></tr>\n"
+        }
+        Piece::NostrosBegin => {
+            b"<h2>Statements of our accounts with other banks</h2>\n<table>\n<tr><th>Account</th><th>Currency</th><th>Bank</th><th>Statement</th></tr>\n"
+        }
+        Piece::LeavingBegin => {
+            b"<h2>Messages that leave for what is booked on this day</h2>\n<table>\n<tr><th>Receiver</th><th>Type</th><th>How many</th></tr>\n"
+        }
+        Piece::TwiceBegin => {
+            b"<h2>Look at twice: an earlier message has the UETR, or the sender, field 20 and amount</h2>\n<table>\n<tr><th>No</th><th>Reference</th><th>Sender</th><th>Field 20</th><th>Amount</th></tr>\n"
+        }
         Piece::PaymentColumns => {
             b"<tr><th>No</th><th>Reference</th><th>Sender</th><th>Field 20</th><th>Amount</th>"
         }
         Piece::StandingColumns => b"<th>Value date</th><th>Beneficiary</th><th>What</th></tr>\n",
-        Piece::Accounts => b"<h2>Accounts</h2>\n",
-        Piece::CurrencyBegin => b"<h3>",
-        Piece::CurrencyEnd => b"</h3>\n",
         Piece::AccountColumns => b"<tr><th>Account</th><th>Kind</th><th>Owner</th><th>Balance</th>",
         Piece::RoomColumns => {
             b"<th>Floor</th><th>Ceiling</th><th>To the floor</th><th>To the ceiling</th><th>Bar</th></tr>\n"
@@ -187,6 +219,16 @@ pub(crate) fn mark(piece: Piece) -> &'static [u8]
         Piece::TableEnd => b"</table>\n",
         Piece::RowBegin => b"<tr>",
         Piece::RowEnd => b"</tr>\n",
+        _ => cell_mark(piece),
+    }
+}
+
+/// A piece of a cell that any table may have; of another piece what it is by those of one table.
+#[tactic(auto, unfolding(crate::specs::Markup::cell_markup))]
+fn cell_mark(piece: Piece) -> &'static [u8]
+    ensures { result.now ≡ cell_markup piece }
+{
+    match piece {
         Piece::CellBegin => b"<td>",
         Piece::NumberBegin => b"<td class=n>",
         Piece::CellEnd => b"</td>",
@@ -198,6 +240,16 @@ pub(crate) fn mark(piece: Piece) -> &'static [u8]
         Piece::BarGreatest => b" max=",
         Piece::BarValue => b" value=",
         Piece::BarEnd => b"></meter></td>",
+        _ => word_mark(piece),
+    }
+}
+
+/// A piece of a cell that says something in words; nothing of another piece.
+#[tactic(auto, unfolding(crate::specs::Markup::word_markup))]
+fn word_mark(piece: Piece) -> &'static [u8]
+    ensures { result.now ≡ word_markup piece }
+{
+    match piece {
         Piece::NotEntered => b"<td>not entered yet</td>",
         Piece::BookedAt => b"<td>booked, place ",
         Piece::ConflictAt => b"<td>another payment has this reference, place ",
@@ -206,20 +258,9 @@ pub(crate) fn mark(piece: Piece) -> &'static [u8]
         Piece::PlaceOf => b", place ",
         Piece::PageOf => b"<td>a page of a statement of ",
         Piece::Advice => b"<td>an advice</td>",
-        Piece::AheadBegin => {
-            b"<h2>Booked ahead of the value date</h2>\n<table>\n<tr><th>Place</th><th>Reference</th><th>Booked on</th><th>Value date</th><th>Account</th><th>Amount</th></tr>\n"
-        }
-        Piece::NostrosBegin => {
-            b"<h2>Statements of our accounts with other banks</h2>\n<table>\n<tr><th>Account</th><th>Currency</th><th>Bank</th><th>Statement</th></tr>\n"
-        }
         Piece::Stated => b"<td>in the file</td>",
         Piece::Unstated => b"<td>none in the file</td>",
-        Piece::LeavingBegin => {
-            b"<h2>Messages that leave for what is booked on this day</h2>\n<table>\n<tr><th>Receiver</th><th>Type</th><th>How many</th></tr>\n"
-        }
         Piece::TypeBegin => b"<td>MT",
-        Piece::TwiceBegin => {
-            b"<h2>Look at twice: an earlier message has the UETR, or the sender, field 20 and amount</h2>\n<table>\n<tr><th>No</th><th>Reference</th><th>Sender</th><th>Field 20</th><th>Amount</th></tr>\n"
-        }
+        _ => b"",
     }
 }
