@@ -130,7 +130,8 @@ fn planned_apart(alloc: Global, desk: &Desk, m: &Mt103, text: &Text) -> Result<P
     let asked = asked_of(desk.book.home(), ask);
     let envelope = envelope(FIRST);
     let charged = accounts_of(&envelope, ask, &asked, &desk.ssi, &desk.book, &desk.charges)?;
-    Ok(pay_on(alloc, FIRST, &envelope, text, &asked, &charged, &desk.book)?)
+    let lines = text.copy(alloc)?;
+    Ok(pay_on(alloc, FIRST, &envelope, lines, &asked, &charged, &desk.book)?)
 }
 
 // A transfer of 1,00 to account C, whose charges somebody bears.

@@ -33,7 +33,7 @@ fn pay_of(
     alloc: Global,
     mir: Mir,
     env: &Envelope,
-    text: &Text,
+    text: Text,
     asked: &Asked<'_>,
     charged: &Charged,
     a: &Accounts,
@@ -41,7 +41,7 @@ fn pay_of(
     requires reference { env.now.mir ≡ Some mir }
     requires debit { IsListed a.now charged.now.routed.debit.0 }
     requires charge { IfSome charged.now.charge (λ c. c.amount.0 ≤ asked.now.amount.minor.0) }
-    ensures value { IfOk result (λ pay. pay ≡ pay_of env.now text.now asked.now charged.now a.now) }
+    ensures value { IfOk result (λ pay. pay ≡ pay_of env.now text asked.now charged.now a.now) }
     ensures sound { OnOk result (IsChart a.now) }
     ensures owner { OnOk result ((x : Account) → account_at a.now charged.now.routed.debit.0 ≡ Some x → IsBic x.owner) }
 {
@@ -51,7 +51,7 @@ fn pay_of(
         mir,
         mt: asked.mt,
         uetr: env.uetr,
-        text: text.copy(alloc)?,
+        text,
         value: asked.value,
         legs: legs_of(alloc, way, asked, charged)?,
         orders: orders_of(alloc, way, asked.target, routed.via, a.get(routed.debit))?,
@@ -107,7 +107,7 @@ pub fn accounts_of(
     Ok(Charged { routed, charge })
 }
 
-/// The pay of what a message asks, on the accounts that `accounts_of` gives it. `Memory`: there was no room for it.
+/// The pay of what a message asks, on the accounts that `accounts_of` gives it. It keeps the text. `Memory`: there was no room for it.
 ///
 /// `mir` is the reference of `env`. The pay can be written down where the reference and the UETR of `env` meet their grammar and the
 /// text has at most 32,768 bytes.
@@ -115,7 +115,7 @@ pub fn pay_on(
     alloc: Global,
     mir: Mir,
     env: &Envelope,
-    text: &Text,
+    text: Text,
     asked: &Asked<'_>,
     charged: &Charged,
     accounts: &Accounts,
@@ -124,9 +124,9 @@ pub fn pay_on(
     requires message { IsSomeAsked accounts.now.home asked.now }
     requires accounts { AreCharged accounts.now asked.now.amount charged.now }
     requires via { IfSome charged.now.routed.via IsBic }
-    ensures value { IfOk result (λ pay. pay ≡ pay_of env.now text.now asked.now charged.now accounts.now) }
+    ensures value { IfOk result (λ pay. pay ≡ pay_of env.now text asked.now charged.now accounts.now) }
     ensures fit { IfOk result (FitsAccounts accounts.now) }
-    ensures form { IsWritable env.now text.now → IfOk result HasShape }
+    ensures form { IsWritable env.now text → IfOk result HasShape }
     ensures sound { OnOk result (IsChart accounts.now) }
 {
     pay_of(alloc, mir, env, text, asked, charged, accounts)
@@ -160,5 +160,6 @@ pub fn plan(
     let mir = env.mir.unwrap();
     let asked = asked_of(accounts.home(), ask);
     let charged = accounts_of(env, ask, &asked, ssi, accounts, charges)?;
-    Ok(pay_on(alloc, mir, env, text, &asked, &charged, accounts)?)
+    let lines = text.copy(alloc)?;
+    Ok(pay_on(alloc, mir, env, lines, &asked, &charged, accounts)?)
 }

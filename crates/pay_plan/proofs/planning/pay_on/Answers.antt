@@ -1,4 +1,4 @@
-use Rattle.std.proofs.Common.{◌≡◌, sym, subst}
+use Rattle.std.proofs.Common.{sym, subst}
 use Rattle.day_model.specs.Fit.{FitsAccounts}
 use Rattle.day_model.specs.Shape.{HasShape}
 use Rattle.fin_contents.specs.Money.{IsPayable}
@@ -18,7 +18,7 @@ returns-clause-fit c =
     let asked = c.args.asked.now in
     let of = c.requires.message in
     let amount : IsPayable asked.amount = subst (λ (q : Asked). IsPayable q.amount) (sym of.2) (asked-amount of.1.0 chart.home of.0 of.1.1) in
-    on-pay c.pay_of.result (pay_of c.args.env.now c.args.text.now asked charged chart) (λ p. FitsAccounts chart p) c.pay_of.ensures.value c.pay_of.ensures.sound c.pay_of.ensures.owner
+    on-pay c.pay_of.result (pay_of c.args.env.now c.args.text asked charged chart) (λ p. FitsAccounts chart p) c.pay_of.ensures.value c.pay_of.ensures.sound c.pay_of.ensures.owner
     (λ sound owner. legs-fit chart (way_of asked.mt asked.target charged.routed.method) asked charged c.requires.accounts amount)
 
 pub returns-clause-form : goal.returns-clause-form
@@ -31,5 +31,5 @@ returns-clause-form c = λ writable.
     let form : AskedForm t asked = subst (AskedForm t) (sym of.2) (asked-form t chart.home of.0 of.1.1) in
     let amount : IsPayable asked.amount = subst (λ (q : Asked). IsPayable q.amount) (sym of.2) (asked-amount t chart.home of.0 of.1.1) in
     let are = legs-are (way_of asked.mt asked.target charged.routed.method) asked charged chart c.requires.accounts amount in
-    on-pay c.pay_of.result (pay_of c.args.env.now c.args.text.now asked charged chart) HasShape c.pay_of.ensures.value c.pay_of.ensures.sound c.pay_of.ensures.owner
-    (λ sound owner. shaped t c.args.env.now c.args.text.now asked charged chart (received c.args.env.now c.args.mir c.requires.reference) writable form c.requires.accounts c.requires.via are sound owner)
+    on-pay c.pay_of.result (pay_of c.args.env.now c.args.text asked charged chart) HasShape c.pay_of.ensures.value c.pay_of.ensures.sound c.pay_of.ensures.owner
+    (λ sound owner. shaped t c.args.env.now c.args.text asked charged chart (received c.args.env.now c.args.mir c.requires.reference) writable form c.requires.accounts c.requires.via are sound owner)

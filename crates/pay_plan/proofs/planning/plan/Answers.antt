@@ -1,4 +1,4 @@
-use Rattle.std.proofs.Common.{◌≡◌, IfOk, ap, ◌∙◌, subst}
+use Rattle.std.proofs.Common.{◌≡◌, ap, ◌∙◌}
 use Rattle.corr_ids.specs.declared.bic.Bic.{Bic}
 use Rattle.pay_plan.specs.Asked.{Asked, asked_of}
 use Rattle.pay_plan.specs.Plan.{pay_of, plan_of}
@@ -21,5 +21,6 @@ returns-clause-plan c =
     let chart = c.args.accounts.now in
     let pay = pay_of c.args.env.now c.args.text.now (asked_of chart.home c.args.ask) c.in_ok-charged.charged chart in
     let is : c.asked_of-asked.result ≡ asked_of chart.home c.args.ask = c.asked_of-asked.ensures ∙ ap (λ (home : Bic). asked_of home c.args.ask) c.home.ensures in
-    let paid = c.in_ok-pay_on.ensures.value ∙ ap (λ (asked : Asked). pay_of c.args.env.now c.args.text.now asked c.in_ok-charged.charged chart) is in
+    let lines = c.in_ok-lines.ensures in
+    let paid = c.in_ok-pay_on.ensures.value ∙ (λ i. pay_of c.args.env.now (lines i) (is i) c.in_ok-charged.charged chart) in
     planned c.in_ok-pay_on.field-0 pay (plan_of c.args.env.now c.args.text.now c.args.ask c.args.ssi.now c.args.charges.now chart) paid (c.in_ok-charged.ensures.value c.args.text.now)
