@@ -11,8 +11,9 @@ use Rattle.corr_ids.specs.Bic.{bic_of, is_bic, IsBic}
 use Rattle.corr_ids.specs.declared.bic.Bic.{Bic}
 use Rattle.corr_ids.proofs.laws.Spelling.{some_if, bic-again}
 use Rattle.day_model.specs.declared.account.Account.{Account}
-use Rattle.day_model.specs.Chart.{AreApart, AreRows, IsFormed, IsLimited, IsSameBank, IsSmall}
-use Rattle.ref_tables.specs.AccountList.{AreAccounts, IsAccount, IsSameRelation}
+use Rattle.day_model.specs.Chart.{AreApart, AreRows, IsFormed, IsLimited, IsSmall}
+use Rattle.ref_tables.specs.AccountList.{AreAccounts, IsAccount}
+use Rattle.corr_ids.specs.Kinds.{IsSameBank}
 use Rattle.ref_tables.specs.Seen.{Tables}
 use Rattle.ref_tables.specs.declared.account.AccountRow.{AccountRow}
 use Rattle.day_model.specs.declared.fault.AccountsFault.{AccountsFault}
@@ -63,12 +64,13 @@ limited home t r is = record {
   below_ceil = is.below_ceil;
 }
 
+-- accounts of one bank
+abbrev OfOneBank : Account → Account → Type 0
+OfOneBank a b = IsSameBank a.kind a.owner.head a.ccy.0 b.kind b.owner.head b.ccy.0
+
 pub are_rows : (home : List ℕ) (t : Tables) (rows : List AccountRow) → AreAccounts home t rows → length (map opened rows) ≡ length rows → AreRows (map opened rows)
 are_rows home t rows are long = record { apart = apart; limited = λ i a at. let m = made rows i a at in subst IsLimited m.is (limited home t m.row (are.each i m.row m.there)) }
   where
-    related : (a b : AccountRow) → IsSameBank (opened a) (opened b) → IsSameRelation a b
-    related a b same = record { bank = same.bank; kind = same.kind; head = same.head; ccy = same.ccy }
-
     apart : AreApart (map opened rows)
     apart = record {
       few = omega (arith, are.few, long);
@@ -76,7 +78,7 @@ are_rows home t rows are long = record { apart = apart; limited = λ i a at. let
       ids = λ i j a b at also same. let m = made rows i a at in let n = made rows j b also in
           are.ids i j m.row n.row m.there n.there (ap (λ (x : Account). x.id) m.is ∙ same ∙ sym (ap (λ (x : Account). x.id) n.is));
       banks = λ i j a b at also same. let m = made rows i a at in let n = made rows j b also in
-          are.relations i j m.row n.row m.there n.there (related m.row n.row (subst (λ x. IsSameBank x (opened n.row)) (sym m.is) (subst (IsSameBank a) (sym n.is) same)));
+          are.relations i j m.row n.row m.there n.there (subst (λ x. OfOneBank x (opened n.row)) (sym m.is) (subst (OfOneBank a) (sym n.is) same));
       decimals = λ i j a b at also same. let m = made rows i a at in let n = made rows j b also in
           sym (ap (λ (x : Account). x.decimals) m.is) ∙ are.decimals i j m.row n.row m.there n.there (ap (λ (x : Account). x.ccy) m.is ∙ same ∙ sym (ap (λ (x : Account). x.ccy) n.is)) ∙ ap (λ (x : Account). x.decimals) n.is;
     }

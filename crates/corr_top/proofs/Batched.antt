@@ -2,7 +2,7 @@
 use Rattle.std.proofs.Common.{◌≡◌, inl, inr, ℕ, zero, suc, ◌+◌, ◌-◌, ◌<◌, ◌≤◌, All, List, [], ◌∷◌, ◌++◌, drop, get_or, length, length-append, map, take, Option, Some, None, Result, Ok, Err, refl, sym, ap, ◌∙◌, subst, arith, append-nil, append_assoc}
 use Rattle.std.specs.Prelude.{IfErr, IfOk}
 use mathlib.Core.List.{IsPrefix}
-use Rattle.std.proofs.lemmas.List.{drop-drop, drop_all, map-append, map_more, take-append-drop}
+use Rattle.std.proofs.lemmas.List.{drop-drop, drop_all, length-drop, length-map, map-append, map_more, take-append-drop}
 use Rattle.std.proofs.lemmas.List.Elements.{All-append, All-head, All-nil, All-tail}
 use Rattle.corr_books.specs.Opening.{Opening}
 use Rattle.corr_books.specs.Telling.{Told}
@@ -111,6 +111,44 @@ module _ (o : Opening) where
   left_over (reading ∷ rest) pass None = none_left reading rest pass
   left_over (reading ∷ rest) pass (Some why) = stopped (reading ∷ rest) (record { pass = pass; halted = Some why }) why refl
 
+  -- ---- messages that were answered one after another
+
+  -- a message more
+  pub served_more : (readings : List (Result Pay NoPay)) (reading : Result Pay NoPay) (old mid new : Worker) (made : List Served) (one : Served) → ServesInTurn o readings old mid made → Serves o reading mid new one
+      → ServesInTurn o (readings ++ reading ∷ []) old new (made ++ one ∷ [])
+  served_more [] reading old mid new [] one so_far is = (new, subst (λ (w : Worker). Serves o reading w new one) so_far is, refl)
+  served_more [] reading old mid new (m ∷ made) one so_far is = absurd so_far
+  served_more (r ∷ readings) reading old mid new [] one so_far is = absurd so_far
+  served_more (r ∷ readings) reading old mid new (m ∷ made) one so_far is = (so_far.0, so_far.1, served_more readings reading so_far.0 mid new made one so_far.2 is)
+
+  -- the messages up to the next one
+  pub served_next : (reading : List ℕ → Result Pay NoPay) (messages : List (List ℕ)) (at : ℕ) (message : List ℕ) (old mid new : Worker) (made now : List Served) (one : Served) → at < length messages
+      → message ≡ get_or messages at [] → ServesInTurn o (map reading (take at messages)) old mid made → Serves o (reading message) mid new one → now ≡ made ++ one ∷ []
+      → ServesInTurn o (map reading (take (at + 1) messages)) old new now
+  served_next reading messages at message old mid new made now one within here so_far is put =
+      let more = read_more reading messages at message (map reading (take at messages)) (reading message) within here refl refl in
+      subst (λ (x : List (Result Pay NoPay) × List Served). ServesInTurn o x.0 old new x.1) (λ i. (more i, sym put i)) (served_more (map reading (take at messages)) (reading message) old mid new made one so_far is)
+
+  -- messages, and those after them
+  served_both : (front rest : List (Result Pay NoPay)) (old mid new : Worker) (made more : List Served) → ServesInTurn o front old mid made → ServesInTurn o rest mid new more
+      → ServesInTurn o (front ++ rest) old new (made ++ more)
+  served_both [] rest old mid new [] more so_far after = subst (λ (w : Worker). ServesInTurn o rest w new more) so_far after
+  served_both [] rest old mid new (m ∷ made) more so_far after = absurd so_far
+  served_both (r ∷ front) rest old mid new [] more so_far after = absurd so_far
+  served_both (r ∷ front) rest old mid new (m ∷ made) more so_far after = (so_far.0, so_far.1, served_both front rest so_far.0 mid new made more so_far.2 after)
+
+  -- the first n messages were answered, and what is left is stopped
+  pub front_served : (reading : List ℕ → Result Pay NoPay) (messages : List (List ℕ)) (n : ℕ) (old : Worker) (pass : PassKnows) (halted : Option Halt) (made : List Served)
+      → ServesInTurn o (map reading (take n messages)) old (record { pass = pass; halted = halted }) made
+      → ServesInTurn o (map reading messages) old (record { pass = pass; halted = halt_after (length messages - n) halted }) (made ++ stopped_so (length messages - n) (why_of halted))
+  front_served reading messages n old pass halted made so_far =
+      let front = map reading (take n messages) in
+      let rest = map reading (drop n messages) in
+      let left : length rest ≡ length messages - n = length-map (drop n messages) reading ∙ length-drop n messages in
+      let whole : front ++ rest ≡ map reading messages = sym (map-append reading (take n messages) (drop n messages)) ∙ ap (λ (l : List (List ℕ)). map reading l) (take-append-drop n messages) in
+      let here = served_both front rest old (record { pass = pass; halted = halted }) (record { pass = pass; halted = halt_after (length rest) halted }) made (stopped_so (length rest) (why_of halted)) so_far (left_over rest pass halted) in
+      subst (λ (x : List (Result Pay NoPay) × ℕ). ServesInTurn o x.0 old (record { pass = pass; halted = halt_after x.1 halted }) (made ++ stopped_so x.1 (why_of halted))) (λ i. (whole i, left i)) here
+
   -- ---- messages whose pays were booked
 
   still : (left : ℕ) (why : Halt) → Some why ≡ halt_after left (Some why)
@@ -165,7 +203,11 @@ module _ (o : Opening) where
   booked (Ok pay ∷ readings) rest (Err (fault.DiskFault before after) ∷ answers) old new shapes told = record {
     left = length (readings ++ rest);
     count = omega arith;
-    served = (record { pass = told.0; halted = Some halt.Disk }, step pay (Err (fault.DiskFault before after)) old told.0 (All-head HasShape pay (pays_in readings) shapes) told.1, rest_stopped (readings ++ rest) told.0 new halt.Disk told.2.0);
+    served = (
+      record { pass = told.0; halted = Some (halt.Disk before after) },
+      step pay (Err (fault.DiskFault before after)) old told.0 (All-head HasShape pay (pays_in readings) shapes) told.1,
+      rest_stopped (readings ++ rest) told.0 new (halt.Disk before after) told.2.0,
+    );
   }
   booked (Ok pay ∷ readings) rest (Err (fault.Broken at_open now) ∷ answers) old new shapes told = record {
     left = length (readings ++ rest);

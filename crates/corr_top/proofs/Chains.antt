@@ -18,7 +18,7 @@ use Rattle.corr_top.specs.declared.desk.Served.{Served}
 use Rattle.corr_top.specs.inner.Workers.{Worker}
 use Rattle.corr_top.specs.declared.message.NoPay.{NoPay}
 use Rattle.corr_top.specs.inner.Serving.{IsTold, Serves}
-use Rattle.corr_top.proofs.Serves.{IsFrom, goes, stands}
+use Rattle.corr_top.proofs.Serves.{HasTold, IsFrom, goes, stands, told_next}
 
 module _ {Job : Type 0} (o : Opening) (reading : Job → Result Pay NoPay) (jobs : List Job) (made : List Served) where
   -- the serves of the jobs with these numbers
@@ -58,15 +58,18 @@ module _ {Job : Type 0} (o : Opening) (reading : Job → Result Pay NoPay) (jobs
       pub one_is : slice_get made (n - 1) ≡ Some one
       pub told : IsTold o history (reading job) one
 
-    pub each_stands : (numbers : List ℕ) (before after : Worker) → Chain numbers before after → IsPrefix after.pass.known log → (i n : ℕ) → slice_get numbers i ≡ Some n → IsServed n
-    each_stands [] before after c p i n at = absurd (none-some n at)
-    each_stands (m ∷ numbers) before after c p zero n at =
+    pub each_stands : (numbers : List ℕ) (before after : Worker) → HasTold o before → Chain numbers before after → IsPrefix after.pass.known log → (i n : ℕ) → slice_get numbers i ≡ Some n → IsServed n
+    each_stands [] before after told c p i n at = absurd (none-some n at)
+    each_stands (m ∷ numbers) before after told c p zero n at =
         let r = grew numbers c.2 after c.6 in
         subst IsServed (same_Some m n at) (record {
           job = c.0;
           one = c.1;
           job_is = c.3;
           one_is = c.4;
-          told = stands o log history is legal (reading c.0) before c.2 c.1 c.5 (prefix_trans c.2.pass.known after.pass.known log r.known p);
+          told = stands o log history is legal (reading c.0) before c.2 c.1 told c.5 (prefix_trans c.2.pass.known after.pass.known log r.known p);
         })
-    each_stands (m ∷ numbers) before after c p (suc i) n at = each_stands numbers c.2 after c.6 p i n at
+    each_stands (m ∷ numbers) before after told c p (suc i) n at =
+        let r = grew numbers c.2 after c.6 in
+        let here = stands o log history is legal (reading c.0) before c.2 c.1 told c.5 (prefix_trans c.2.pass.known after.pass.known log r.known p) in
+        each_stands numbers c.2 after (told_next o log history is legal (reading c.0) before c.2 c.1 told c.5 here) c.6 p i n at

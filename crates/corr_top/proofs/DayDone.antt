@@ -4,10 +4,9 @@ use Rattle.std.specs.Prelude.{IfErr, IfOk, IsSome, slice_get}
 use Rattle.std.proofs.lemmas.Option.{none-some, same_Some}
 use Rattle.corr_disk.specs.declared.disk.Disk as disks
 use Rattle.corr_io.specs.declared.source.Source as sources
-use Rattle.corr_text.specs.Faults.{Rose}
+use Rattle.corr_text.specs.Faults.{Rose, counted}
 use Rattle.corr_books.specs.Closing.{LeavesClosed}
 use Rattle.corr_books.specs.Opening.{Opening, Parts, opening_with, past_of}
-use Rattle.corr_books.specs.Telling.{ShowsFull}
 use Rattle.day_model.specs.declared.entry.Entry.{Entry}
 use Rattle.day_model.specs.declared.pay.Pay.{Pay}
 use Rattle.day_model.specs.declared.reply.Reply.{Reply}
@@ -19,6 +18,7 @@ use Rattle.ssi_versions.specs.InstructionList.{AreInstructions}
 use Rattle.corr_report.specs.Report.{NamesPlace}
 use Rattle.corr_top.specs.declared.answers.BookStop.{BookStop}
 use Rattle.corr_top.specs.declared.answers.BookStop.TheVariants as booking
+use Rattle.corr_top.specs.declared.desk.Halt.TheVariants as halt
 use Rattle.corr_top.specs.declared.desk.Served.{Served}
 use Rattle.corr_top.specs.declared.desk.Served.TheVariants as served
 use Rattle.corr_top.specs.declared.directory.Directory.{Directory}
@@ -34,7 +34,7 @@ use Rattle.corr_top.specs.Message.{pays_in, readings_of}
 use Rattle.corr_top.specs.inner.Origin.{SendsAccepted}
 use Rattle.corr_top.specs.Out.{sent_from}
 use Rattle.corr_top.specs.Passing.{AreGiven, HasMessages, StopsAtMessages}
-use Rattle.corr_top.specs.inner.Serving.{FeedServed, AreServedInOrder, AreTold, are_replies, HasPayShape, HasServed, IsFirstFull, IsShort, IsTold, IsTried}
+use Rattle.corr_top.specs.inner.Serving.{FeedServed, AreServedInOrder, AreTold, are_replies, HasPayShape, HasServed, IsFirstFailed, IsFirstFull, IsTold, IsTried, TellsHalt}
 use Rattle.corr_top.specs.Stops.{status_of_file}
 use Rattle.corr_top.specs.inner.Streamed.{EndsAt, GivesStream, StreamServed}
 use Rattle.corr_top.specs.declared.cutting.FileStop.{FileStop}
@@ -45,7 +45,6 @@ use Rattle.corr_top.specs.declared.stream.Stage.TheVariants as stage
 use Rattle.corr_top.proofs.Adding.{in_front}
 use Rattle.corr_top.proofs.Answering.{all_places, entered_by, has_answered}
 use Rattle.corr_top.proofs.Fronts.{All-after}
-use Rattle.corr_top.proofs.NoRoom.{finds_none}
 use Rattle.corr_top.proofs.Origins.{sent-valid}
 use Rattle.corr_top.proofs.Replying.{get_all}
 use Rattle.corr_top.proofs.Batches.{get_there, unmapped}
@@ -95,20 +94,16 @@ module _ (o : Opening) (readings : List (Result Pay NoPay)) (history : List Entr
       let r = unmapped served.Reply replies n m.0 front in
       entered_as pay r.0 m.0 r.2 (told.told n (Ok pay) m.0 is m.1)
 
-  short_of : (reading : Result Pay NoPay) (at entries end need : ℕ) → slice_get readings at ≡ Some reading → IsShort o history reading entries end need
+  short_of : (reading : Result Pay NoPay) (at entries end need : ℕ) → slice_get readings at ≡ Some reading → IsTold o history reading (served.Full entries end need)
       → ((n : ℕ) (pay : Pay) → n < at → slice_get readings n ≡ Some (Ok pay) → IsSome (entered_at pay.mir history)) → LacksRoomThen o.accounts o.base (pays_in readings) o.day history entries end need
   short_of reading at entries end need there short before =
-      let place = asked_at readings at short.pay (there ∙ ap (λ (r : Result Pay NoPay). Some r) short.asks) in
-      let shows = subst (λ (h : List Entry). ShowsFull o short.pay h entries end need) (sym short.from.1) short.shows in
+      let place = asked_at readings at short.0 (there ∙ ap (λ (r : Result Pay NoPay). Some r) short.1) in
       record {
         place = place.0;
-        pay = short.pay;
+        pay = short.0;
         pay_is = place.1;
         ahead = λ k other less is. let m = place.2 k other less is in before m.0 other m.1 m.2;
-        front = short.from.0;
-        later = short.begins.0;
-        left_is = sym short.begins.1 ∙ ap (λ (h : List Entry). h ++ short.begins.0) (sym short.from.1);
-        finds = finds_none o short.pay (o.base ++ short.from.0) entries end need shows;
+        had = short.2;
       }
 
   lacks_of : (entries end need : ℕ) → IsFirstFull made entries end need → LacksRoomThen o.accounts o.base (pays_in readings) o.day history entries end need
@@ -119,23 +114,18 @@ module _ (o : Opening) (readings : List (Result Pay NoPay)) (history : List Entr
 
   -- ---- each pay was tried, where each message has a reply or found no room
 
-  one_tried : (pay : Pay) (one : Served) → IsTold o history (Ok pay) one → IsTried one → IsSome (entered_at pay.mir history) ⊎ HadNoRoom o.accounts o.base o.day history pay
+  -- a pay had no room, by some numbers
+  abbrev NoRoomOf : Pay → Type 0
+  NoRoomOf pay = (count : ℕ) × (gate : ℕ) × (bytes : ℕ) × HadNoRoom o.accounts o.base o.day history pay count gate bytes
+
+  one_tried : (pay : Pay) (one : Served) → IsTold o history (Ok pay) one → IsTried one → IsSome (entered_at pay.mir history) ⊎ NoRoomOf pay
   one_tried pay (served.Reply r) is answered = inl (entered_by pay history r is)
   one_tried pay (served.Full entries end need) short answered =
-      let same : short.pay ≡ pay = let a = short.asks in cc (a) in
-      let shows = subst (λ (h : List Entry). ShowsFull o short.pay h entries end need) (sym short.from.1) short.shows in
-      inr (subst (HadNoRoom o.accounts o.base o.day history) same (record {
-        front = short.from.0;
-        later = short.begins.0;
-        left_is = sym short.begins.1 ∙ ap (λ (h : List Entry). h ++ short.begins.0) (sym short.from.1);
-        entries = entries;
-        end = end;
-        need = need;
-        finds = finds_none o short.pay (o.base ++ short.from.0) entries end need shows;
-      }))
+      let same : short.0 ≡ pay = let a = short.1 in cc (a) in
+      inr (entries, end, need, subst (λ (p : Pay). HadNoRoom o.accounts o.base o.day history p entries end need) same short.2)
   one_tried pay (served.Stopped why) is answered = absurd answered
 
-  tried : All IsTried made → (k : ℕ) (pay : Pay) → slice_get (pays_in readings) k ≡ Some pay → IsSome (entered_at pay.mir history) ⊎ HadNoRoom o.accounts o.base o.day history pay
+  tried : All IsTried made → (k : ℕ) (pay : Pay) → slice_get (pays_in readings) k ≡ Some pay → IsSome (entered_at pay.mir history) ⊎ NoRoomOf pay
   tried all k pay at =
       let n = from_pays readings k pay at in
       let below = get_below readings n.0 (Ok pay) n.1 in
@@ -150,14 +140,25 @@ module _ (o : Opening) (readings : List (Result Pay NoPay)) (history : List Entr
   -- ---- which pays one worker entered
 
   pub in_order : (before after : ℕ) (stop : BookStop) → StopsAsServed before after made stop → o.made ≡ 1 → EntersInOrder o.accounts o.base (pays_in readings) o.day history stop
-  in_order before after (booking.DiskFault then now) stops one = let e = (turn one).entered in record { entered = e.entered; stops = e.failed stops.3 }
+  in_order before after (booking.DiskFault then now) stops one = let e = (turn one).entered in let f = stops.1 in record { entered = e.entered; stops = e.failed (f.at, then, now, f.there) }
   in_order before after (booking.Full entries end need) stops one = let e = (turn one).entered in record { entered = e.entered; stops = e.all stops.2 }
   in_order before after booking.Memory stops one = let e = (turn one).entered in record { entered = e.entered; stops = tt }
 
   -- ---- why there are no texts
 
+  -- what the first message tells over whose pay the disk failed
+  told_failed : (from to : ℕ) → IsFirstFailed made from to → TellsHalt o (halt.Disk from to)
+  told_failed from to first =
+      let one = served.Stopped (halt.Disk from to) in
+      let below = get_below made first.at one first.there in
+      let r = get_there readings first.at (let e = told.each in omega (arith, below, e)) in
+      told.told first.at r.0 one r.1 first.there
+
   pub cause_of : (before after : ℕ) (stop : BookStop) → before ≡ o.at_open → after ≡ faults → (IsCalm o.at_open faults → faults ≡ o.at_open) → StopsAsServed before after made stop → StopCause o (pays_in readings) history faults stop
-  cause_of before after (booking.DiskFault then now) was is calm stops = (stops.0 ∙ was, stops.1 ∙ is, subst (λ (x : ℕ × ℕ). Rose x.0 x.1) (λ k. (sym stops.0 k, sym stops.1 k)) stops.2)
+  cause_of before after (booking.DiskFault then now) was is calm stops =
+      let says = told_failed then now stops.1 in
+      let rose : Rose o.at_open faults = subst (λ (x : ℕ × ℕ). Rose x.0 x.1) (λ k. (was k, is k)) stops.0 in
+      (says.0, says.1 ∙ ap counted says.0 ∙ sym rose, says.1)
   cause_of before after (booking.Full entries end need) was is calm stops =
       (calm (subst (λ (x : ℕ × ℕ). IsCalm x.0 x.1) (λ k. (was k, is k)) stops.0), lacks_of entries end need stops.1, λ one. (turn one).short entries end need stops.1)
   cause_of before after booking.Memory was is calm stops = tt
@@ -180,37 +181,38 @@ module _ {S D : Type 0} (source : sources.Ghosts S) (d : disks.Ghosts D) (direct
     pub day_done : (count before : ℕ) (texts : Texts) → before ≡ old.at_open → count ≡ length old.base → AreInstructions directory.tables directory.ssi → IsChart old.accounts
         → GivesTexts old.accounts history made before (d.faults new) count (Ok texts) → GivesDay source d directory workers most from to old new (Ok texts)
     day_done count before texts was counted are sound gives =
-        let replies = gives.0 in
-        let calm = subst (λ (n : ℕ). IsCalm n (d.faults new)) was gives.2 in
-        let sends = subst (λ (n : ℕ). SendsAccepted old.accounts (n + 1) history) counted gives.5 in (
-          bytes,
-          cut,
-          history,
-          replies,
-          record {
+        let replies = gives.replies in
+        let calm = subst (λ (n : ℕ). IsCalm n (d.faults new)) was gives.calm in
+        let sends = subst (λ (n : ℕ). SendsAccepted old.accounts (n + 1) history) counted gives.accepted in
+        record {
+          bytes = bytes;
+          cut = cut;
+          history = history;
+          replies = replies;
+          day = record {
             file = file;
             served = left;
             calm = calm;
-            answered = has_answered books history readings made replies told turn gives.1;
-          },
-          gives.3,
-          gives.4 ∙ ap (λ (n : ℕ). sent_from old.accounts (n + 1) history) counted,
-          sent-valid directory old.accounts old.day cut old.base left.added history are sound left.is left.each (shapes_of old.base left.added history left.is left.journal.entries) left.journal.legal sends,
-        )
+            answered = has_answered books history readings made replies told turn gives.made_is;
+          };
+          report_is = gives.report_is;
+          out_is = gives.out_is ∙ ap (λ (n : ℕ). sent_from old.accounts (n + 1) history) counted;
+          valid = sent-valid directory old.accounts old.day cut old.base left.added history are sound left.is left.each (shapes_of old.base left.added history left.is left.journal.entries) left.journal.legal sends;
+        }
 
     -- or not
     pub day_stops : (count before : ℕ) (s : Status) → before ≡ old.at_open → GivesTexts old.accounts history made before (d.faults new) count (Err s) → GivesDay source d directory workers most from to old new (Err s)
     day_stops count before s was gives = inr (inr (record {
-      stop = gives.0;
+      stop = gives.stop;
       bytes = bytes;
       cut = cut;
       history = history;
-      status_is = gives.1;
+      status_is = gives.status_is;
       file = file;
       served = left;
-      tried = tried_at books readings history (d.faults new) made told turn before (d.faults new) gives.0 gives.2;
-      alone = in_order books readings history (d.faults new) made told turn before (d.faults new) gives.0 gives.2;
-      cause = cause_of books readings history (d.faults new) made told turn before (d.faults new) gives.0 was refl (still left.leaves) gives.2;
+      tried = tried_at books readings history (d.faults new) made told turn before (d.faults new) gives.stop gives.stops;
+      alone = in_order books readings history (d.faults new) made told turn before (d.faults new) gives.stop gives.stops;
+      cause = cause_of books readings history (d.faults new) made told turn before (d.faults new) gives.stop was refl (still left.leaves) gives.stops;
     }))
 
 -- ---- a day whose messages were served while their file was read
@@ -228,7 +230,7 @@ module _ {S D : Type 0} (source : sources.Ghosts S) (d : disks.Ghosts D) (direct
   asked_by given = readings_of directory old.accounts given
 
   -- the file stopped it, or memory ran out
-  by_file : (to : S) (stop : FileStop) (bytes : List ℕ) (given : List (List ℕ)) → StopsAtMessages source from to bytes stop → AreGiven source from to given
+  by_file : (to : S) (stop : FileStop) (bytes : List ℕ) (given : List (List ℕ)) → StopsAtMessages source from to bytes stop → AreGiven source from to bytes given
       → (day : ServedDay D) → FeedServed d opening (past_of d old) (asked_by given) day → GivesDay source d directory workers most from to old day.closed.disk (Err (status_of_file stop))
   by_file to stop bytes given stops are_given day served = inr (inl (record {
     stop = stop;
@@ -262,19 +264,19 @@ module _ {S D : Type 0} (source : sources.Ghosts S) (d : disks.Ghosts D) (direct
       left : HasServed d opening (past_of d old) (asked_by had.given) old.accounts history s.day.closed.disk
       left = left_on d opening (past_of d old) (asked_by had.given) s.day.closed.accounts history s.day.closed.disk had.served.left
 
-      stopped : (stop : FileStop) (bytes : List ℕ) → StopsAtMessages source from s.file.source bytes stop → GivesDay source d directory workers most from s.file.source old s.day.closed.disk (Err (status_of_file stop))
-      stopped stop bytes stops = by_file s.file.source stop bytes had.given stops had.are_given s.day had.served
+      stopped : (stop : FileStop) → StopsAtMessages source from s.file.source had.bytes stop → GivesDay source d directory workers most from s.file.source old s.day.closed.disk (Err (status_of_file stop))
+      stopped stop stops = by_file s.file.source stop had.bytes had.given stops had.are_given s.day had.served
 
-      day_gives : (bytes : List ℕ) → HasMessages source from s.file.source bytes had.given ⊎ IfOk s.day.served (λ _. ⊥) → StopsAtMessages source from s.file.source bytes stop_of.Memory → GivesServed d s.day before count r
+      day_gives : HasMessages source from s.file.source had.bytes had.given ⊎ IfOk s.day.served (λ _. ⊥) → StopsAtMessages source from s.file.source had.bytes stop_of.Memory → GivesServed d s.day before count r
           → GivesDay source d directory workers most from s.file.source old s.day.closed.disk r
-      day_gives bytes whole memory gives =
-          by_served (λ made. made.items) s.file.source bytes had.given history s.day.closed.disk left s.day.served whole had.served.told had.served.turn r
-          (subst (λ (c : Chart). IfOk s.day.served (λ made. GivesTexts c history made.items before (d.faults s.day.closed.disk) count r)) had.served.left.accounts gives.texts) gives.none (stopped stop_of.Memory bytes memory)
+      day_gives whole memory gives =
+          by_served (λ made. made.items) s.file.source had.bytes had.given history s.day.closed.disk left s.day.served whole had.served.told had.served.turn r
+          (subst (λ (c : Chart). IfOk s.day.served (λ made. GivesTexts c history made.items before (d.faults s.day.closed.disk) count r)) had.served.left.accounts gives.texts) gives.none (stopped stop_of.Memory memory)
 
-      by_stage : (at : Stage) → EndsAt source from s.file.source had.given s.day.served at → GivesStream d s.day at before count r → GivesDay source d directory workers most from s.file.source old s.day.closed.disk r
-      by_stage stage.Whole ends gives = day_gives ends.0 ends.1 ends.2 gives
-      by_stage (stage.Stopped stop) ends gives = subst (GivesDay source d directory workers most from s.file.source old s.day.closed.disk) (sym gives) (stopped stop ends.0 ends.1)
-      by_stage stage.Going ends gives = day_gives [] (inr ends.0) ends.1 gives
+      by_stage : (at : Stage) → EndsAt source from s.file.source had.bytes had.given s.day.served at → GivesStream d s.day at before count r → GivesDay source d directory workers most from s.file.source old s.day.closed.disk r
+      by_stage stage.Whole ends gives = day_gives ends.0 ends.1 gives
+      by_stage (stage.Stopped stop) ends gives = subst (GivesDay source d directory workers most from s.file.source old s.day.closed.disk) (sym gives) (stopped stop ends)
+      by_stage stage.Going ends gives = day_gives (inr ends.0) ends.1 gives
 
 -- what the making of the texts needs of a served day
 pub places_in : {D : Type 0} (d : disks.Ghosts D) (o : Opening) (past : ℕ → List ℕ → Type 0) (readings : List (Result Pay NoPay)) (day : ServedDay D) → FeedServed d o past readings day

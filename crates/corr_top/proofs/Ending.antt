@@ -1,5 +1,5 @@
 -- How a command ends, from what its texts are and how they were written.
-use Rattle.std.proofs.Common.{◌≡◌, inl, inr, ℕ, List, Ok, Err, sym, subst}
+use Rattle.std.proofs.Common.{◌≡◌, inl, inr, ℕ, List, [], ◌∷◌, Ok, Err, sym, subst}
 use Rattle.corr_disk.specs.declared.disk.Disk as disks
 use Rattle.corr_io.specs.declared.sink.Sink as sinks
 use Rattle.corr_io.specs.declared.source.Source as sources
@@ -8,8 +8,11 @@ use Rattle.corr_top.specs.declared.status.Status.{Status}
 use Rattle.corr_top.specs.declared.writing.Texts.{Texts}
 use Rattle.corr_top.specs.Ends.{Ends}
 use Rattle.corr_top.specs.inner.Ends.{HasTexts}
+use Rattle.corr_top.specs.Inputs.{Inputs}
 use Rattle.corr_top.specs.Meaning.{KeepsRest, Meaning}
+use Rattle.corr_top.specs.Passing.{Passes}
 use Rattle.corr_top.specs.Status.{HasLine}
+use Rattle.corr_top.specs.Steps.{Step, Walks}
 use Rattle.corr_top.specs.Writing.{FailsWriting, Received}
 use Rattle.corr_top.specs.inner.Writing.{IsWritten}
 use Rattle.corr_top.proofs.Stopping.{stopped}
@@ -45,6 +48,15 @@ module _ {S K D : Type 0} (source : sources.Ghosts S) (disk : disks.Ghosts D) (s
   rest_again : (report out : K) → KeepsRest m.steps old room → KeepsRest m.steps old (record room { report = report; out = out })
   rest_again report out rest = record { tables = rest.tables; messages = rest.messages; received = rest.received; sent = rest.sent; disk2 = rest.disk2 }
 
+  -- nor of what a step reads
+  passes_again : (report out : K) (i : Inputs) (step : Step) → Passes source disk old room i step → Passes source disk old (record room { report = report; out = out }) i step
+  passes_again report out i (Step.table name) passes = passes
+  passes_again report out i _ passes = passes
+
+  all_again : (report out : K) (i : Inputs) (steps : List Step) → Walks (Passes source disk old room i) steps → Walks (Passes source disk old (record room { report = report; out = out }) i) steps
+  all_again report out i [] all = tt
+  all_again report out i (step ∷ steps) all = (passes_again report out i step all.0, all_again report out i steps all.1)
+
   pub ends_ok : (report out : K) (texts : Texts) (s : Status) → HasTexts source disk m old room (Ok texts) → IsWritten sink room.report report texts.report room.out out texts.out s
       → Ends source disk m old (record room { report = report; out = out }) sink s
   ends_ok report out texts s has (inl done) =
@@ -54,7 +66,7 @@ module _ {S K D : Type 0} (source : sources.Ghosts S) (disk : disks.Ghosts D) (s
         are_for = has.are_for;
         ends = inl (record {
           status_is = done.0;
-          passed = record { passed = p.passed; leaves = p.leaves };
+          passed = record { passed = all_again report out has.inputs m.steps p.passed; leaves = p.leaves };
           valid = has.gives.3;
           report = as_before old.report room.report report texts.report (m.report has.inputs) has.report has.gives.1 done.1;
           out = as_before old.out room.out out texts.out (m.out has.inputs) has.out has.gives.2 done.2;
@@ -70,7 +82,7 @@ module _ {S K D : Type 0} (source : sources.Ghosts S) (disk : disks.Ghosts D) (s
           then = failed.0;
           now = failed.1;
           status_is = failed.2;
-          passed = record { passed = p.passed; leaves = p.leaves };
+          passed = record { passed = all_again report out has.inputs m.steps p.passed; leaves = p.leaves };
           valid = has.gives.3;
           failed = fails_before old.report report old.out out texts.report texts.out (m.report has.inputs) (m.out has.inputs) failed.0 failed.1 has.report has.out has.gives.1 has.gives.2 failed.3;
         }));

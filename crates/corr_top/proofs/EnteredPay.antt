@@ -1,8 +1,9 @@
 -- One pay that was entered with the one pass of its books, when the books are closed.
-use Rattle.std.proofs.Common.{◌≡◌, ℕ, All, List, [], ◌∷◌, ◌++◌, Result, Ok, length, length-append, map, ap, sym, subst, arith}
+use Rattle.std.proofs.Common.{◌≡◌, ℕ, All, List, [], ◌∷◌, Result, Ok, get_or, length, map, ap, sym, ◌∙◌, subst}
+use Rattle.std.specs.Prelude.{slice_get, slice_set}
 use Rattle.corr_books.specs.Closing.{Closes, LeavesClosed, LeavesInTurn}
 use Rattle.corr_books.specs.Opening.{Opening, Parts, opening_with}
-use Rattle.corr_books.specs.Passes.{AreNew}
+use Rattle.corr_books.specs.Passes.{AreNew, Belongs}
 use Rattle.corr_books.specs.Stand.{entries_of}
 use Rattle.corr_books.specs.Telling.{Told}
 use Rattle.corr_disk.specs.declared.disk.Disk as disks
@@ -23,7 +24,7 @@ use Rattle.corr_top.specs.declared.message.NoPay.{NoPay}
 use Rattle.corr_top.specs.declared.returning.Entered.{Entered}
 use Rattle.corr_top.proofs.Batches.{HaveServed}
 use Rattle.corr_top.proofs.OnePay.{afterwards, one_served}
-use Rattle.corr_top.proofs.Workers.{Serving, all_added, are_told, turn}
+use Rattle.corr_top.proofs.Workers.{Serving, all_added, are_told, single_of, turn}
 
 -- what the job of a pay asks for
 abbrev asks : Pay → Result Pay NoPay
@@ -46,13 +47,22 @@ module _ (o : Opening) (pay : Pay) (news : List PassKnows) (q p : PassKnows) (is
   pub pay_turn : AreBy (length o.base) o.accounts → o.made ≡ 1 → AreServedInOrder o history (asks_for pay) (made ∷ [])
   pay_turn by one = turn o asks (pay ∷ []) news after history faults new closes (made ∷ []) served by one
 
--- a list of one that ends with this has nothing else
-pub only_one : {A : Type 0} (xs rest : List A) (x : A) → xs ≡ rest ++ x ∷ [] → length xs ≡ 1 → xs ≡ x ∷ []
-only_one xs [] x is one = is
-only_one xs (y ∷ rest) x is one =
-    let long : length xs ≡ length (y ∷ rest ++ x ∷ []) = ap length is in
-    let more = length-append rest (x ∷ []) in
-    absurd (omega (arith, long, more, one))
+-- ---- the one pass of new books
+
+module _ (o : Opening) (made : o.made ≡ 1) (news : List PassKnows) (new : AreNew o news) (q : PassKnows) (first : q ≡ get_or news 0 q) where
+  -- there is no other
+  pub only_new : news ≡ q ∷ []
+  only_new =
+      let one = single_of news (new.count ∙ made) in
+      let same : q ≡ one.0 = first ∙ ap (λ (ps : List PassKnows). get_or ps 0 q) one.1 in
+      one.1 ∙ ap (λ (p : PassKnows). p ∷ []) (sym same)
+
+  pub new_belongs : Belongs o q
+  new_belongs = (new.each 0 q (ap (λ (ps : List PassKnows). slice_get ps 0) only_new)).belongs
+
+  -- so it is alone after a call too
+  pub only_after : (p : PassKnows) → slice_set news 0 p ≡ p ∷ []
+  only_after p = ap (λ (ps : List PassKnows). slice_set ps 0 p) only_new
 
 -- ---- the books of a name, which were closed
 

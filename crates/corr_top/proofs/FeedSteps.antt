@@ -26,7 +26,7 @@ whole_short (whole_some file message rest messages front is over) = All-append I
 
 found_short : (left : Option (List ℕ)) (faults : ℕ) (now : Option (List ℕ)) (count : ℕ) (bytes : List ℕ) (messages : List (List ℕ)) → AreShown left faults now count bytes messages → All IsShort messages
 found_short left faults now count bytes messages (inl whole) = all-short bytes messages whole.2
-found_short left faults now count bytes messages (inr shown) = whole_short shown.2
+found_short left faults now count bytes messages (inr shown) = whole_short shown.1
 
 module _ {S : Type 0} (source : sources.Ghosts S) (left : Option (List ℕ)) (faults : ℕ) where
   pub messages_short : (f : MessageFile S) → IsStreamOf source left faults f → All IsShort (messages_so_far f)

@@ -23,8 +23,8 @@ use Rattle.standby.proofs.laws.Packets.{one_packet}
 use Rattle.corr_top.specs.declared.cutting.FileStop.{FileStop}
 use Rattle.corr_top.specs.declared.cutting.FileStop.TheVariants as file
 use Rattle.corr_top.specs.declared.status.Status.TheVariants as status
-use Rattle.corr_top.specs.Complete.{IsSure, TellsAll}
-use Rattle.corr_top.specs.Followed.{ArePackets, EndsWithin, HoldsRecords, IsShort, IsTakeable, StopsAtPackets, StopsBeginning, StopsTaking, packet_bytes}
+use Rattle.corr_top.specs.Ready.{IsSure, TellsAll}
+use Rattle.corr_top.specs.Followed.{ArePackets, EndsWithin, HoldsRecords, FitsFourBytes, IsTakeable, StopsAtPackets, StopsBeginning, StopsTaking, packet_bytes}
 use Rattle.corr_top.specs.declared.reading.ReadStop.{ReadStop}
 use Rattle.corr_top.specs.declared.reading.ReadStop.TheVariants as reading
 use Rattle.corr_top.specs.MessageFile.{most_message_bytes}
@@ -48,19 +48,19 @@ same_held bytes (journal c h) (journal d k) one two =
 -- ---- packets
 
 -- the bytes of a packet are that packet
-pub whole : (packet : Packet) → IsShort packet → IsPacket (packet_bytes packet) packet.number packet.body
+pub whole : (packet : Packet) → FitsFourBytes packet → IsPacket (packet_bytes packet) packet.number packet.body
 whole packet short = record { few = short.few; short = short.short; is = sym (append-nil (packet_bytes packet)) }
 
 -- bytes of more than one packet begin with the first
 begins : (packet : Packet) (packets : List Packet) (bytes : List ℕ) → ArePackets bytes (packet ∷ packets)
     → BeginsWithPacket bytes packet.number packet.body (joined_all (map packet_bytes packets))
 begins packet packets bytes are =
-    let first = All-head IsShort packet packets are.each in
+    let first = All-head FitsFourBytes packet packets are.each in
     record { few = first.few; short = first.short; is = are.are }
 
 -- and the rest are the others
 others : (packet : Packet) (packets : List Packet) (bytes : List ℕ) → ArePackets bytes (packet ∷ packets) → ArePackets (joined_all (map packet_bytes packets)) packets
-others packet packets bytes are = record { each = All-tail IsShort packet packets are.each; are = refl }
+others packet packets bytes are = record { each = All-tail FitsFourBytes packet packets are.each; are = refl }
 
 -- there are some
 some_bytes : (packet : Packet) (rest : List ℕ) → [] ≡ packet_bytes packet ++ rest → ⊥
@@ -89,7 +89,7 @@ next_cut bytes more (q ∷ packets) p are first =
 
 -- no bytes are no packets
 pub none_cut : ArePackets [] []
-none_cut = record { each = All-nil IsShort; are = refl }
+none_cut = record { each = All-nil FitsFourBytes; are = refl }
 
 -- where no whole packet stands in front, there is none
 pub no_first : (bytes : List ℕ) (packets : List Packet) → ArePackets bytes packets → ((number : ℕ) (r more : List ℕ) → BeginsWithPacket bytes number r more → ⊥) → packets ≡ []
@@ -102,9 +102,9 @@ joined_push (q ∷ packets) p =
     ap (λ (l : List ℕ). packet_bytes q ++ l) (joined_push packets p) ∙ sym (append_assoc (packet_bytes q) (joined_all (map packet_bytes packets)) (packet_bytes p))
 
 -- a packet behind others
-pub one_behind : (front : List ℕ) (packets : List Packet) (p : Packet) → ArePackets front packets → IsShort p → ArePackets (front ++ packet_bytes p) (packets ++ p ∷ [])
+pub one_behind : (front : List ℕ) (packets : List Packet) (p : Packet) → ArePackets front packets → FitsFourBytes p → ArePackets (front ++ packet_bytes p) (packets ++ p ∷ [])
 one_behind front packets p are short = record {
-  each = All-push IsShort packets p are.each short;
+  each = All-push FitsFourBytes packets p are.each short;
   are = ap (λ (l : List ℕ). l ++ packet_bytes p) are.are ∙ sym (joined_push packets p);
 }
 
@@ -122,7 +122,7 @@ never_within bytes packets at are within = behind packets within.packets bytes w
         some_bytes q (joined_all (map packet_bytes before) ++ rest)
         (sym are.are ∙ cut ∙ ap (λ (l : List ℕ). l ++ rest) is.are ∙ append_assoc (packet_bytes q) (joined_all (map packet_bytes before)) rest)
     behind (p ∷ all) (q ∷ before) bytes front rest are is cut some none =
-        let first = All-head IsShort q before is.each in
+        let first = All-head FitsFourBytes q before is.each in
         let two : BeginsWithPacket bytes q.number q.body (joined_all (map packet_bytes before) ++ rest) = record {
           few = first.few;
           short = first.short;

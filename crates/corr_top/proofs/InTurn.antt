@@ -202,20 +202,21 @@ module _ (o : Opening) where
   stops_here (Err why) old new halted s tags = ap (λ (p : PassKnows). known_to o p) s.0
 
   -- one over whose pay the disk failed asks for a pay that is not entered
-  pub fails_new : (reading : Result Pay NoPay) (old new : PassKnows) → AnswersMessage o reading old new (served.Stopped halt.Disk) → (pay : Pay) × (reading ≡ Ok pay) × (entered_at pay.mir (known_to o new) ≡ None)
-  fails_new (Ok pay) old new (inl none) = absurd (cc (none.1))
-  fails_new (Ok pay) old new (inr s) = (pay, refl, cases s.0 s.1 s.3)
+  pub fails_new : (reading : Result Pay NoPay) (old new : PassKnows) (before after : ℕ) → AnswersMessage o reading old new (served.Stopped (halt.Disk before after))
+      → (pay : Pay) × (reading ≡ Ok pay) × (entered_at pay.mir (known_to o new) ≡ None)
+  fails_new (Ok pay) old new before after (inl none) = absurd (cc (none.1))
+  fails_new (Ok pay) old new before after (inr s) = (pay, refl, cases s.0 s.1 s.3)
     where
-      cases : (answer : Answer) → Told o pay old answer new → served.Stopped halt.Disk ≡ served_of pay.mir answer → entered_at pay.mir (known_to o new) ≡ None
+      cases : (answer : Answer) → Told o pay old answer new → served.Stopped (halt.Disk before after) ≡ served_of pay.mir answer → entered_at pay.mir (known_to o new) ≡ None
       cases (Ok (New place outcome)) t is = absurd (cc (is))
       cases (Ok (Kept place outcome)) t is = absurd (cc (is))
       cases (Err (fault.Conflict place)) t is = absurd (cc (is))
       cases (Err (fault.Full entries end need)) t is = absurd (cc (is))
-      cases (Err (fault.DiskFault before after)) t is = t.says.3
+      cases (Err (fault.DiskFault from to)) t is = t.says.3
       cases (Err (fault.Broken at_open now)) t is = absurd (cc (is))
       cases (Err fault.Memory) t is = absurd (cc (is))
-  fails_new (Err why) old new (same, inl none) = absurd (cc (none))
-  fails_new (Err why) old new (same, inr told) = absurd (cc (told))
+  fails_new (Err why) old new before after (same, inl none) = absurd (cc (none))
+  fails_new (Err why) old new before after (same, inr told) = absurd (cc (told))
 
   -- one that finds no room shows it of what the pass knew
   pub full_shows : (reading : Result Pay NoPay) (old new : PassKnows) (entries end need : ℕ) → AnswersMessage o reading old new (served.Full entries end need) → AllTagged new old.number

@@ -1,5 +1,6 @@
 pub mod KnownParts
 pub mod MessageFiles
+pub mod ReadBytes
 pub mod StreamFiles
 pub mod StreamSteps
 pub mod FeedSteps
@@ -14,6 +15,7 @@ pub mod Told
 pub mod Outcomes
 pub mod Adding
 pub mod Sending
+pub mod SideBySide
 pub mod Printing
 pub mod Senders
 pub mod Origins
@@ -37,7 +39,6 @@ pub mod Reporting
 pub mod Gathering
 pub mod Serves
 pub mod Rooms
-pub mod NoRoom
 pub mod FrontPart
 pub mod Batches
 pub mod Batched
@@ -53,6 +54,7 @@ pub mod Fronts
 pub mod Stopping
 pub mod Ending
 pub mod Initial
+pub mod steps
 pub mod Completing
 pub mod Spread
 pub mod Trials

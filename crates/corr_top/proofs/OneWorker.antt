@@ -32,7 +32,6 @@ use Rattle.corr_top.specs.inner.Serving.{AnswersMessage, AreEntered, AreServedIn
 use Rattle.corr_top.proofs.Chains.{Chain, grew}
 use Rattle.corr_top.proofs.FrontPart.{front_on}
 use Rattle.corr_top.proofs.InTurn.{AllTagged, fails_new, first_is, full_shows, goes_on, stops_here, tries_on}
-use Rattle.corr_top.proofs.NoRoom.{finds_none}
 use Rattle.corr_top.proofs.Replying.{get_all}
 use Rattle.corr_top.proofs.Serves.{goes}
 
@@ -349,7 +348,7 @@ module _ {Job : Type 0} (o : Opening) (reading : Job → Result Pay NoPay) (jobs
           pays_are = cut_at first.at n.job s.0 n.there s.1;
           later = b.0;
           left_is = sym b.1 ∙ ap (λ (h : List Entry). h ++ b.0) knows;
-          finds = finds_none o s.0 fold entries end need shows;
+          finds = shows;
         }
 
     -- each of the first was tried, and so none of them says that the disk failed
@@ -368,8 +367,9 @@ module _ {Job : Type 0} (o : Opening) (reading : Job → Result Pay NoPay) (jobs
       };
       all = λ _. refl;
       failed = λ says.
-          let below = get_below made says.0 (served.Stopped halt.Disk) says.1 in
-          absurd (tried_not (length jobs) says.0 halt.Disk tried (let e = a.replies in omega (arith, below, e)) says.1);
+          let disk = halt.Disk says.1 says.2 in
+          let below = get_below made says.0 (served.Stopped disk) says.3 in
+          absurd (tried_not (length jobs) says.0 disk tried (let e = a.replies in omega (arith, below, e)) says.3);
     }
 
     -- a message stopped it
@@ -409,16 +409,20 @@ module _ {Job : Type 0} (o : Opening) (reading : Job → Result Pay NoPay) (jobs
           get_some (x ∷ xs) (suc k) within = get_some xs k (omega arith)
 
       -- so where one says that the disk failed, it did so at this one
-      stop_says : SaysFailed made → halt.Disk ≡ why
-      stop_says (k, says_so) =
-          dite (dec_lt k at)
-          (λ less. absurd (tried_not at k halt.Disk tried less says_so))
-          (λ more. dite (dec_lt at k)
-          (λ beyond. same_halt (stop_rest k (get_below made k (served.Stopped halt.Disk) says_so) beyond))
-          (λ no_more. same_halt (let e : at ≡ k = omega (arith, more, no_more) in ap (slice_get made) (sym e) ∙ here)))
+      stop_says : SaysFailed made → (from : ℕ) × (to : ℕ) × (halt.Disk from to ≡ why)
+      stop_says (k, from, to, says_so) = (
+        from,
+        to,
+        dite (dec_lt k at)
+            (λ less. absurd (tried_not at k (halt.Disk from to) tried less says_so))
+            (λ more. dite (dec_lt at k)
+            (λ beyond. same_halt (stop_rest k (get_below made k (served.Stopped (halt.Disk from to)) says_so) beyond))
+            (λ no_more. same_halt (let e : at ≡ k = omega (arith, more, no_more) in ap (slice_get made) (sym e) ∙ here))),
+      )
         where
-          same_halt : slice_get made k ≡ Some (served.Stopped why) → halt.Disk ≡ why
-          same_halt is = let s : served.Stopped halt.Disk ≡ served.Stopped why = same_Some (served.Stopped halt.Disk) (served.Stopped why) (sym says_so ∙ is) in cc (s)
+          same_halt : slice_get made k ≡ Some (served.Stopped why) → halt.Disk from to ≡ why
+          same_halt is =
+              let s : served.Stopped (halt.Disk from to) ≡ served.Stopped why = same_Some (served.Stopped (halt.Disk from to)) (served.Stopped why) (sym says_so ∙ is) in cc (s)
 
       stop_cut : asked jobs ≡ asked (take at jobs) ++ asked (drop at jobs)
       stop_cut =
@@ -433,18 +437,18 @@ module _ {Job : Type 0} (o : Opening) (reading : Job → Result Pay NoPay) (jobs
       not_all all = get_all IsTried made at (served.Stopped why) all here
 
       -- not for the disk
-      stopped_else : (halt.Disk ≡ why → ⊥) → AreEntered o history (asked jobs) made
+      stopped_else : ((from to : ℕ) → halt.Disk from to ≡ why → ⊥) → AreEntered o history (asked jobs) made
       stopped_else other = record {
         entered = subst (λ (pays : List Pay). EntersFront o.accounts o.base pays o.day history) (sym stop_cut) (front_on o.accounts o.base (asked (take at jobs)) (asked (drop at jobs)) o.day history stop_left);
         all = λ all. absurd (not_all all);
-        failed = λ says_so. absurd (other (stop_says says_so));
+        failed = λ says_so. let says = stop_says says_so in absurd (other says.0 says.1 says.2);
       }
 
       -- for the disk: its pay is new
-      stopped_disk : halt.Disk ≡ why → AreEntered o history (asked jobs) made
-      stopped_disk disk =
+      stopped_disk : (from to : ℕ) → halt.Disk from to ≡ why → AreEntered o history (asked jobs) made
+      stopped_disk from to disk =
           let n = stop_next in
-          let f = fails_new o (reading n.job) stop_until.mid.pass n.next.pass (subst (λ (h : Halt). AnswersMessage o (reading n.job) stop_until.mid.pass n.next.pass (served.Stopped h)) (sym disk) stop_answer.0) in
+          let f = fails_new o (reading n.job) stop_until.mid.pass n.next.pass from to (subst (λ (h : Halt). AnswersMessage o (reading n.job) stop_until.mid.pass n.next.pass (served.Stopped h)) (sym disk) stop_answer.0) in
           let begins : BeginsNew history (f.0 ∷ asked (drop (suc at) jobs)) =
           record { pay = f.0; more = asked (drop (suc at) jobs); pays_are = refl; new = subst (λ (h : List Entry). entered_at f.0.mir h ≡ None) (sym stop_whole) f.2 } in
           record {
@@ -460,9 +464,9 @@ module _ {Job : Type 0} (o : Opening) (reading : Job → Result Pay NoPay) (jobs
           }
 
     stopped_by : (at : ℕ) → AreFirst IsTried made at → (why : Halt) → slice_get made at ≡ Some (served.Stopped why) → AreEntered o history (asked jobs) made
-    stopped_by at tried halt.Disk here = stopped_disk at tried halt.Disk here refl
-    stopped_by at tried halt.Broken here = stopped_else at tried halt.Broken here (λ e. cc (e))
-    stopped_by at tried halt.Memory here = stopped_else at tried halt.Memory here (λ e. cc (e))
+    stopped_by at tried (halt.Disk from to) here = stopped_disk at tried (halt.Disk from to) here from to refl
+    stopped_by at tried halt.Broken here = stopped_else at tried halt.Broken here (λ from to e. cc (e))
+    stopped_by at tried halt.Memory here = stopped_else at tried halt.Memory here (λ from to e. cc (e))
 
     entered_in_turn : AreEntered o history (asked jobs) made
     entered_in_turn = cases (first_stop made)

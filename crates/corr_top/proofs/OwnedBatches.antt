@@ -1,13 +1,13 @@
 -- Batches that own the bytes of their messages, and batches of a feed that goes on.
-use Rattle.std.proofs.Common.{◌≡◌, ℕ, zero, suc, ◌+◌, ◌<◌, ◌≤◌, All, List, [], ◌∷◌, ◌++◌, drop, get_or, length, length-append, map, take, refl, sym, ap, ◌∙◌, subst, arith}
-use Rattle.std.specs.Prelude.{sum}
-use Rattle.std.proofs.lemmas.List.{drop-drop, drop_all, get_or-map, length-drop, length-map, map-append, take-append-le}
+use Rattle.std.proofs.Common.{◌≡◌, ℕ, zero, suc, ◌+◌, ◌-◌, ◌<◌, ◌≤◌, All, List, [], ◌∷◌, ◌++◌, drop, get_or, length, length-append, map, take, refl, sym, ap, ◌∙◌, subst, arith}
+use Rattle.std.specs.Prelude.{max, min, sum}
+use Rattle.std.proofs.lemmas.List.{drop-drop, drop_all, get_or-map, length-drop, length-map, length-take, map-append, take-append-drop, take-append-le}
 use Rattle.std.proofs.lemmas.List.Sums.{sum_by-cons}
-use Rattle.std.proofs.lemmas.List.Elements.{All-append, All-head, All-tail, All-weaker}
-use lib.Seq.{drop-append-le, take_all}
+use Rattle.std.proofs.lemmas.List.Elements.{All-append, All-get_or, All-head, All-tail, All-weaker}
+use lib.Seq.{drop-append-le, take-suc, take_all}
 use Rattle.fin_frame.specs.Pieces.{IsPlaceIn, at_place, at_places}
 use Rattle.fin_frame.specs.declared.place.Place.{Place}
-use Rattle.corr_top.specs.inner.Batching.{AreInText, IsShort}
+use Rattle.corr_top.specs.inner.Batching.{AreInText, IsShort, StandsBetween, behind}
 use Rattle.corr_top.specs.inner.Stream.{batches_of}
 use Rattle.corr_top.proofs.Replying.{all_one}
 
@@ -68,22 +68,15 @@ pub in_text_more : (text message : List ℕ) (places : List Place) (place : Plac
     → AreInText (text ++ message) (places ++ place ∷ [])
 in_text_more text message places place from len short old =
     let grown = length-append text message in
-    let counted = length-append places (place ∷ []) in
-    let small = old.small in
     record {
       within = All-append (IsPlaceIn (length (text ++ message))) places (place ∷ [])
           (All-weaker (IsPlaceIn (length text)) (IsPlaceIn (length (text ++ message))) (λ p in_old. omega (arith, grown, in_old)) places old.within)
           (all_one (IsPlaceIn (length (text ++ message))) place (omega (arith, from, len, grown)));
       short = subst (λ (ms : List (List ℕ)). All IsShort ms) (sym (message_more text message places place from len old.within))
           (All-append IsShort (at_places text places) (message ∷ []) old.short (all_one IsShort message short));
-      small = omega (arith, grown, counted, small, short);
     }
 
 -- ---- places that begin elsewhere
-
--- a place behind so many bytes
-abbrev pub behind : ℕ → Place → Place
-behind begin place = record { from = begin + place.from; len = place.len }
 
 pub places_behind : (begin : ℕ) (text : List ℕ) (found : List Place) → at_places text (map (behind begin) found) ≡ at_places (drop begin text) found
 places_behind begin text [] = refl
@@ -91,6 +84,67 @@ places_behind begin text (p ∷ found) =
     let first : at_place text (behind begin p) ≡ at_place (drop begin text) p = ap (λ (l : List ℕ). take p.len l) (sym (drop-drop p.from begin text)) in
     let rest = places_behind begin text found in
     (λ i. first i ∷ rest i)
+
+-- ---- a stretch of a file
+
+-- one more place, and bytes that it stands between too
+pub between_more : (b past wide far : ℕ) (p : Place) (ps : List Place) → wide ≤ b → past ≤ far → StandsBetween wide far p → All (StandsBetween b past) ps → All (StandsBetween wide far) (ps ++ p ∷ [])
+between_more b past wide far p ps before after one all =
+    All-append (StandsBetween wide far) ps (p ∷ [])
+    (All-weaker (StandsBetween b past) (StandsBetween wide far) (λ q between. (omega (arith, before, between.0), omega (arith, after, between.1))) ps all)
+    (all_one (StandsBetween wide far) p one)
+
+-- one place more of a list
+pub between_step : (at : List Place) (i : ℕ) (d : Place) (b past wide far : ℕ) → i < length at → wide ≡ min b (get_or at i d).from → far ≡ max past ((get_or at i d).from + (get_or at i d).len)
+    → All (StandsBetween b past) (take i at) → All (StandsBetween wide far) (take (i + 1) at)
+between_step at i d b past wide far within least most all =
+    let one : i + 1 ≡ suc i = omega (arith) in
+    subst (λ (ps : List Place). All (StandsBetween wide far) ps) (sym (take-suc at i d within) ∙ ap (λ (n : ℕ). take n at) (sym one))
+    (between_more b past wide far (get_or at i d) (take i at) (omega (arith, least)) (omega (arith, most)) (omega (arith, least), omega (arith, most)) all)
+
+-- which stands in a text, as the others do
+pub past_within : (at : List Place) (i : ℕ) (d : Place) (past far size : ℕ) → i < length at → far ≡ max past ((get_or at i d).from + (get_or at i d).len) → All (IsPlaceIn size) at → past ≤ size → far ≤ size
+past_within at i d past far size within most all before =
+    let one = All-get_or (IsPlaceIn size) at i d within all in
+    omega (arith, one, most, before)
+
+-- places behind others stand within what is left of a stretch
+pub stretch_within : (begin past : ℕ) (places : List Place) → All (StandsBetween begin past) (map (behind begin) places) → All (IsPlaceIn (past - begin)) places
+stretch_within begin past [] all = λ d at within. absurd (omega (arith, within))
+stretch_within begin past (p ∷ places) all =
+    let first = All-head (StandsBetween begin past) (behind begin p) (map (behind begin) places) all in
+    let rest = stretch_within begin past places (All-tail (StandsBetween begin past) (behind begin p) (map (behind begin) places) all) in
+    All-append (IsPlaceIn (past - begin)) (p ∷ []) places (all_one (IsPlaceIn (past - begin)) p (omega (arith, first.0, first.1))) rest
+
+-- so the messages are the same in the stretch alone
+pub stretch_places : (begin count : ℕ) (text : List ℕ) (places : List Place) → count ≤ length (drop begin text) → All (IsPlaceIn count) places
+    → at_places (take count (drop begin text)) places ≡ at_places text (map (behind begin) places)
+stretch_places begin count text places within all =
+    let stretch = take count (drop begin text) in
+    let long : length stretch ≡ count = length-take count (drop begin text) ∙ omega (arith, within) in
+    sym (grown_places stretch (drop count (drop begin text)) places (subst (λ (n : ℕ). All (IsPlaceIn n) places) (sym long) all))
+    ∙ ap (λ (l : List ℕ). at_places l places) (take-append-drop count (drop begin text))
+    ∙ sym (places_behind begin text places)
+
+-- messages of a file, in a text of the stretch where they stand
+module _ (file text : List ℕ) (at places : List Place) (begin past : ℕ) (is : text ≡ take (past - begin) (drop begin file)) (fits : past ≤ length file) (are : map (behind begin) places ≡ at)
+    (between : All (StandsBetween begin past) at) where
+  long : past - begin ≤ length (drop begin file)
+  long = let left = length-drop begin file in omega (arith, fits, left)
+
+  places_in : All (IsPlaceIn (past - begin)) places
+  places_in = stretch_within begin past places (subst (λ (ps : List Place). All (StandsBetween begin past) ps) (sym are) between)
+
+  pub stretch_same : at_places text places ≡ at_places file at
+  stretch_same = ap (λ (l : List ℕ). at_places l places) is ∙ stretch_places begin (past - begin) file places long places_in ∙ ap (at_places file) are
+
+  pub stretch_in : All IsShort (at_places file at) → AreInText text places
+  stretch_in short =
+      let size : length text ≡ past - begin = ap length is ∙ (let taken = length-take (past - begin) (drop begin file) in omega (arith, taken, long)) in
+      record {
+        within = subst (λ (n : ℕ). All (IsPlaceIn n) places) (sym size) places_in;
+        short = subst (λ (ms : List (List ℕ)). All IsShort ms) (sym stretch_same) short;
+      }
 
 -- ---- places side by side
 

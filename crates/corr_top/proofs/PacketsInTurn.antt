@@ -17,7 +17,7 @@ use Rattle.standby.specs.Shipping.{shipped, taken_in}
 use Rattle.standby.specs.Taking.{IsBeforeOrTaken, Ships, TakeShows, is_disk_fault, leaves_all}
 use Rattle.standby.proofs.laws.Packets.{one_packet}
 use Rattle.standby.proofs.laws.Shipped.{taken_next}
-use Rattle.corr_top.specs.Followed.{ArePackets, HasTaken, IsShort, IsTakenPart, StopsTaking, TakesInTurn, packet_bytes}
+use Rattle.corr_top.specs.Followed.{ArePackets, HasTaken, FitsFourBytes, IsTakenPart, StopsTaking, TakesInTurn, packet_bytes}
 use Rattle.corr_top.specs.OnDisk.{HasNotFailed}
 use Rattle.corr_top.proofs.FollowedDisk.{next_cut, no_first, whole}
 
@@ -131,7 +131,7 @@ pub record IsHanded {D : Type 0} (d : disks.Ghosts D) (first last next : D) (now
 
 module _ {D : Type 0} (d : disks.Ghosts D) (first last next : D) (held now : Held) (bytes rest more : List ℕ) (p : Packet) (t : IsTaking d first last held now bytes rest)
     (h : IsHanded d first last next now rest more p) where
-  short : IsShort p
+  short : FitsFourBytes p
   short = record { few = h.begins.few; short = h.begins.short }
 
   module _ (packets : List Packet) (are : ArePackets bytes packets) where

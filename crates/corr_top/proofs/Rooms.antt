@@ -15,7 +15,7 @@ use Rattle.jrn_book.proofs.laws.Sizes.{file_more, no_longer}
 use Rattle.jrn_book.proofs.laws.Items.{by_later}
 use Rattle.jrn_codec.specs.Record.{entry_bytes}
 use Rattle.corr_top.specs.Booking.{IsEnteredOn, LacksRoomThen}
-use Rattle.corr_top.specs.Complete.{HasRoomForAll}
+use Rattle.corr_top.specs.Ready.{HasRoomForAll}
 use Rattle.corr_top.proofs.Replying.{get_all}
 use Rattle.corr_top.proofs.Serves.{entered_mir, split}
 
@@ -127,20 +127,20 @@ among_all chart history front day pays pay place legal added at new = record { t
 
 -- no pay finds no room
 pub has_room : (chart : Chart) (history : List Entry) (pays : List Pay) (day : Day) (left : List Entry) (entries end need : ℕ) → AreBy (length history) chart → HasRoomForAll chart history pays
-    → (lacks : LacksRoomThen chart history pays day left entries end need) → IsLegal chart (history ++ lacks.front) → All (IsEnteredOn day pays) lacks.front → ⊥
+    → (lacks : LacksRoomThen chart history pays day left entries end need) → IsLegal chart (history ++ lacks.had.front) → All (IsEnteredOn day pays) lacks.had.front → ⊥
 has_room chart history pays day left entries end need by room lacks legal added =
-    let now = history ++ lacks.front in
-    let some = map (λ (e : Entry). e.pay) lacks.front in
-    let among = among_all chart history lacks.front day pays lacks.pay lacks.place legal added lacks.pay_is lacks.finds.new in
+    let now = history ++ lacks.had.front in
+    let some = map (λ (e : Entry). e.pay) lacks.had.front in
+    let among = among_all chart history lacks.had.front day pays lacks.pay lacks.place legal added lacks.pay_is lacks.had.finds.new in
     let bytes = sum_among most_of (lacks.pay ∷ some) pays among in
     let ones = sum_among (λ (p : Pay). 1) (lacks.pay ∷ some) pays among in
     let of_pay = sum_by-cons most_of lacks.pay some in
     let count = sum_ones (lacks.pay ∷ some) in
     let all = sum_ones pays in
-    let long : length some ≡ length lacks.front = Rattle.std.proofs.lemmas.List.length-map lacks.front (λ (e : Entry). e.pay) in
-    elim (lacks.finds.full) [
-      | inl full ↦ entries_left (length history) (length lacks.front) (length pays) (length now) (length-append history lacks.front) (omega (arith, ones, count, all, long)) room.entries full
+    let long : length some ≡ length lacks.had.front = Rattle.std.proofs.lemmas.List.length-map lacks.had.front (λ (e : Entry). e.pay) in
+    elim (lacks.had.finds.full) [
+      | inl full ↦ entries_left (length history) (length lacks.had.front) (length pays) (length now) (length-append history lacks.had.front) (omega (arith, ones, count, all, long)) room.entries full
       | inr full ↦ bytes_left (length (file_of chart history)) (sum_by most_of some) (longest_record lacks.pay) (sum_by most_of pays)
           (length (entry_bytes (entry_of chart now lacks.pay day))) (length (file_of chart now)) end need (2 ^ 30)
-          (file_all chart history lacks.front by) (omega (arith, bytes, of_pay)) (no_longer (entry_of chart now lacks.pay day)) lacks.finds.end_is lacks.finds.need_is room.bytes full
+          (file_all chart history lacks.had.front by) (omega (arith, bytes, of_pay)) (no_longer (entry_of chart now lacks.pay day)) lacks.had.finds.end_is lacks.had.finds.need_is room.bytes full
     ]

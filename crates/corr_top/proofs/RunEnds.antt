@@ -169,7 +169,7 @@ module _ {S K D : Type 0} (source : sources.Ghosts S) (d : disks.Ghosts D) (day 
           gives_run (Err s) i refl refl refl
           (inl (serving_stops i s has.passed holds latest (inl (record {
             status_is = stops.status_is;
-            kept = stops.kept;
+            unread = stops.unread;
             sure = ap d.faults disk ∙ kept;
             unwritten = subst (IsUnwritten d old.disk) (sym disk) unwritten;
           }))))
@@ -244,16 +244,16 @@ module _ {S K D : Type 0} (source : sources.Ghosts S) (d : disks.Ghosts D) (day 
       pub day_ends : (r : Result Texts Status) → GivesDay source d directory workers entries old.messages new.messages opened new.disk r → HasTexts source d (meaning_of (Run day workers entries)) old new r
       unfolding meaning_of run_report run_out
       day_ends (Ok texts) gives =
-          let history = gives.2 in
-          let had = gives.4 in
-          let i = i_of gives.0 gives.1 (entered_of had.served.added) in
-          let done = has_passed gives.0 gives.1 history gives.3 had in
+          let history = gives.history in
+          let had = gives.day in
+          let i = i_of gives.bytes gives.cut (entered_of had.served.added) in
+          let done = has_passed gives.bytes gives.cut history gives.replies had in
           gives_run (Ok texts) i refl refl refl (
             done.0,
-            gives.5 ∙ ap (λ es. report_of opened.accounts es gives.3) done.1 ∙ ap (report_of opened.accounts (new_in i)) done.2,
-            gives.6 ∙ ap (sent_from opened.accounts (length opened.base + 1)) done.1,
+            gives.report_is ∙ ap (λ es. report_of opened.accounts es gives.replies) done.1 ∙ ap (report_of opened.accounts (new_in i)) done.2,
+            gives.out_is ∙ ap (sent_from opened.accounts (length opened.base + 1)) done.1,
             subst (λ es. AreSentValid (tables_in i) opened.accounts (length opened.base + 1) es) done.1
-                (subst (λ (x : Directory). AreSentValid x.tables opened.accounts (length opened.base + 1) history) has.directory_is gives.7),
+                (subst (λ (x : Directory). AreSentValid x.tables opened.accounts (length opened.base + 1) history) has.directory_is gives.valid),
           )
       day_ends (Err s) (inl stops) = none_served s stops
       day_ends (Err s) (inr (inl stops)) = file_stops s stops
@@ -262,7 +262,7 @@ module _ {S K D : Type 0} (source : sources.Ghosts S) (d : disks.Ghosts D) (day 
 -- whether the disk tells its bytes stays
 pub day_honest : {S D : Type 0} (source : sources.Ghosts S) (d : disks.Ghosts D) (directory : Directory) (workers entries : ℕ) (from to : S) (opened : Parts D) (new : D) (r : Result Texts Status)
     → GivesDay source d directory workers entries from to opened new r → d.honest new ≡ d.honest (disk_of opened.file)
-day_honest source d directory workers entries from to opened new (Ok texts) gives = gives.4.served.honest
+day_honest source d directory workers entries from to opened new (Ok texts) gives = gives.day.served.honest
 day_honest source d directory workers entries from to opened new (Err s) (inl stops) = ap d.honest stops.same
 day_honest source d directory workers entries from to opened new (Err s) (inr (inl stops)) = stops.served.honest
 day_honest source d directory workers entries from to opened new (Err s) (inr (inr stops)) = stops.served.honest

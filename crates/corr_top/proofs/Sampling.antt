@@ -1,5 +1,5 @@
 -- The bank of a trial: what its files say when they are read, and its journal.
-use Rattle.std.proofs.Common.{◌≡◌, ℕ, ◌+◌, ◌≤◌, List, [], ◌++◌, length, map, Option, None, Some, Result, Ok, Err, refl, sym, ap, ◌∙◌, subst, arith, append-nil, length-append}
+use Rattle.std.proofs.Common.{◌≡◌, ℕ, true, ◌+◌, ◌≤◌, List, [], ◌++◌, length, map, Option, None, Some, Result, Ok, Err, refl, sym, ap, ◌∙◌, subst, arith, append-nil, length-append}
 use Rattle.std.specs.Prelude.{IsTrue, MatchResult}
 use Rattle.corr_books.specs.Finding.{TellsOf}
 use Rattle.corr_books.specs.Opening.{Parts}
@@ -22,6 +22,7 @@ use Rattle.ref_tables.specs.Accounts.{account_of}
 use Rattle.ref_tables.specs.Charges.{charge_in_row}
 use Rattle.ref_tables.specs.Rows.{rows_of}
 use Rattle.ref_tables.specs.Tables.{tables_of}
+use Rattle.ref_tables.specs.declared.fault.TableName.{TableName}
 use Rattle.ref_tables.specs.declared.fault.TableName.TheVariants as names
 use Rattle.ssi_versions.specs.Rows.{instruction_of}
 use Rattle.corr_top.specs.declared.directory.Directory.{Directory}
@@ -30,10 +31,12 @@ use Rattle.corr_top.specs.Inputs.{Inputs, chart_in, directory_in, opened}
 use Rattle.corr_top.specs.OnDisk.{HasNotFailed, IsMakeable, IsOnDisk, MakesInTurn, StopsMaking}
 use Rattle.corr_top.specs.Passing.{IsFine, table_fault, table_file, table_at}
 use Rattle.corr_top.specs.Reading.{IsRead, Took}
+use Rattle.corr_top.specs.Steps.{Step, Walks}
 use Rattle.corr_top.specs.Samples.{sample_accounts, sample_bics, sample_ccys, sample_countries, sample_home, sample_ssi}
-use Rattle.corr_top.specs.inner.Tables.{HasAccounts, HasDirectory}
+use Rattle.corr_top.specs.inner.Tables.{HasAccounts, HasDirectory, PassesTables, account_steps, directory_steps}
 use Rattle.corr_top.specs.Trial.{sample_chart, sample_directory}
 use Rattle.corr_top.specs.inner.Trial.{AreSampleFiles, IsNewDisk, supply_of}
+use Rattle.corr_top.proofs.Walking.{is_named, named_has}
 
 -- ---- a file in memory is read whole
 
@@ -58,6 +61,11 @@ module _ (source : sources.Ghosts Supply) (tells : Tells source) (old new : File
   read_as from to bytes file is short took =
       whole_of 8388608 (source.left to) bytes file short (subst (λ o. IsRead 8388608 o (source.left to) bytes) (tells from ∙ ap (λ (s : Supply). Some s.left) is) took.read)
 
+  -- a table whose step stands among those that passed was read and is fine
+  read_fine : (i : Inputs) (name : TableName) (steps : List Step) → is_named (Step.table name) steps ≡ true → Walks (PassesTables source old new i) steps
+      → IsFine source (table_at name old) (table_at name new) (table_file name i) (table_fault name i)
+  read_fine i name steps named passed = named_has (PassesTables source old new i) (Step.table name) steps named passed
+
   bics_are : (i : Inputs) → IsFine source (table_at names.Bics old) (table_at names.Bics new) (table_file names.Bics i) (table_fault names.Bics i) → i.bics ≡ sample_bics
   bics_are i fine = read_as old.bics new.bics i.bics sample_bics are.bics (omega arith) fine.took
 
@@ -81,12 +89,12 @@ module _ (source : sources.Ghosts Supply) (tells : Tells source) (old new : File
   unfolding sample_directory
   directory_sampled directory has =
       let i = has.inputs in
-      let p = has.passed in
-      let bics = bics_are i p.0 in
-      let ccys = ccys_are i p.1.0 in
-      let countries = countries_are i p.1.1.0 in
-      let ssi = ssi_is i p.1.1.1.0 in
-      let charges : map charge_in_row (rows_of i.charges) ≡ [] = ap (λ (f : List ℕ). map charge_in_row (rows_of f)) (charges_are i p.1.1.1.1.0) ∙ ap (map charge_in_row) no_rows in
+      let bics = bics_are i (read_fine i names.Bics directory_steps refl has.passed) in
+      let ccys = ccys_are i (read_fine i names.Ccys directory_steps refl has.passed) in
+      let countries = countries_are i (read_fine i names.Countries directory_steps refl has.passed) in
+      let ssi = ssi_is i (read_fine i names.Ssi directory_steps refl has.passed) in
+      let none = charges_are i (read_fine i names.Charges directory_steps refl has.passed) in
+      let charges : map charge_in_row (rows_of i.charges) ≡ [] = ap (λ (f : List ℕ). map charge_in_row (rows_of f)) none ∙ ap (map charge_in_row) no_rows in
       let same : directory_in i ≡ sample_directory =
       λ k. record { tables = tables_of (bics k) (ccys k) (countries k); ssi = map instruction_of (rows_of (ssi k)); charges = charges k } in
       has.directory_is ∙ same
@@ -96,11 +104,10 @@ module _ (source : sources.Ghosts Supply) (tells : Tells source) (old new : File
   unfolding sample_chart
   chart_sampled home chart is has =
       let i = has.inputs in
-      let p = has.passed in
-      let bics = bics_are i p.0 in
-      let ccys = ccys_are i p.1.0 in
-      let countries = countries_are i p.1.1.0 in
-      let accounts = accounts_are i p.1.1.1.0 in
+      let bics = bics_are i (read_fine i names.Bics account_steps refl has.passed) in
+      let ccys = ccys_are i (read_fine i names.Ccys account_steps refl has.passed) in
+      let countries = countries_are i (read_fine i names.Countries account_steps refl has.passed) in
+      let accounts = accounts_are i (read_fine i names.Accounts account_steps refl has.passed) in
       let bank = has.home_is ∙ is in
       let same : chart_in i ≡ sample_chart = λ k. record { home = bank k; first = map opened (map (account_of (tables_of (bics k) (ccys k) (countries k))) (rows_of (accounts k))); changes = [] } in
       has.chart_is ∙ same

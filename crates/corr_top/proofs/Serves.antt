@@ -26,10 +26,12 @@ use Rattle.corr_books.specs.Opening.{Opening}
 use Rattle.corr_books.specs.Stand.{entries_of, history_of}
 use Rattle.corr_books.specs.Telling.{Grows, IsAdded, Told, entry_on, known_to}
 use Rattle.corr_books.proofs.laws.Histories.{entries_of-append, history_prefix, length-history_of}
+use Rattle.corr_top.specs.declared.desk.Halt.{Halt}
 use Rattle.corr_top.specs.declared.desk.Served.{Served}
+use Rattle.corr_top.specs.declared.desk.Served.TheVariants as served
 use Rattle.corr_top.specs.inner.Workers.{Worker}
 use Rattle.corr_top.specs.declared.message.NoPay.{NoPay}
-use Rattle.corr_top.specs.inner.Serving.{AnswersMessage, IsTold, Serves, served_of}
+use Rattle.corr_top.specs.inner.Serving.{AnswersMessage, IsTold, Serves, TellsHalt, halt_of, served_of}
 use Rattle.corr_top.proofs.Replying.{reply_here, reply_stays}
 
 -- ---- lists
@@ -106,6 +108,10 @@ module _ (o : Opening) where
 
   -- ---- what stands of it at the end
 
+  -- why the worker stopped, if it did, is what its last message tells
+  abbrev pub HasTold : Worker → Type 0
+  HasTold w = (why : Halt) → w.halted ≡ Some why → TellsHalt o why
+
   -- a pay that was added, in what the pass knows: the history ahead of it, and that after it
   pub added_in : (pay : Pay) (old new : PassKnows) (place : ℕ) (outcome : Outcome) → (added : IsAdded o pay old new place outcome)
       → (front : List Act) × (rest : List Act) × (known_to o new ≡ history_of o.base front ++ entry_on o pay outcome ∷ entries_of rest) × (length front ≡ added.at)
@@ -148,8 +154,9 @@ module _ (o : Opening) where
     stands_told pay old new (Ok (Kept place outcome)) t p = stands_there pay new place true t.says.0.0 p
     stands_told pay old new (Err (fault.Conflict place)) t p = stands_there pay new place false t.says.0 p
     stands_told pay old new (Err (fault.Full entries end need)) t p =
-        record { pay = pay; asks = refl; front = known_to o new; from = (entries_of new.known, refl); begins = begins new.known p; shows = t.says.0 }
-    stands_told pay old new (Err (fault.DiskFault before after)) t p = tt
+        let b = begins new.known p in
+        (pay, refl, record { front = entries_of new.known; later = b.0; left_is = sym b.1; finds = t.says.0 })
+    stands_told pay old new (Err (fault.DiskFault before after)) t p = (t.says.0, t.says.1)
     stands_told pay old new (Err (fault.Broken at_open now)) t p = tt
     stands_told pay old new (Err fault.Memory) t p = tt
 
@@ -159,6 +166,16 @@ module _ (o : Opening) where
     stands_answered (Err why) old new made (same, inl none) p = subst (IsTold o history (Err why)) (sym none) tt
     stands_answered (Err why) old new made (same, inr told) p = subst (IsTold o history (Err why)) (sym told) refl
 
-    pub stands : (reading : Result Pay NoPay) (old new : Worker) (made : Served) → Serves o reading old new made → IsPrefix new.pass.known log → IsTold o history reading made
-    stands reading old new made (inl s) p = stands_answered reading old.pass new.pass made s.1 p
-    stands reading old new made (inr s) p = subst (IsTold o history reading) (sym s.3) tt
+    pub stands : (reading : Result Pay NoPay) (old new : Worker) (made : Served) → HasTold old → Serves o reading old new made → IsPrefix new.pass.known log → IsTold o history reading made
+    stands reading old new made told (inl s) p = stands_answered reading old.pass new.pass made s.1 p
+    stands reading old new made told (inr s) p = subst (IsTold o history reading) (sym s.3) (told s.0 s.1)
+
+    -- a worker that this stops tells why by it
+    told_of : (reading : Result Pay NoPay) (made : Served) → IsTold o history reading made → (why : Halt) → halt_of made ≡ Some why → TellsHalt o why
+    told_of reading (served.Reply told) is why halts = absurd (none-some why halts)
+    told_of reading (served.Full entries end need) is why halts = absurd (none-some why halts)
+    told_of reading (served.Stopped other) is why halts = subst (TellsHalt o) (same_Some other why halts) is
+
+    pub told_next : (reading : Result Pay NoPay) (old new : Worker) (made : Served) → HasTold old → Serves o reading old new made → IsTold o history reading made → HasTold new
+    told_next reading old new made told (inl s) is why off = told_of reading made is why (sym s.2 ∙ off)
+    told_next reading old new made told (inr s) is why off = subst HasTold (sym s.2) told why off

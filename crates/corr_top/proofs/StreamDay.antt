@@ -1,5 +1,5 @@
 -- A day whose messages were served while their file was read: what its feed gave, and how the file ended.
-use Rattle.std.proofs.Common.{◌≡◌, ◌⊎◌, inl, inr, ℕ, zero, suc, ◌≤◌, ◌<◌, Bool, true, List, [], ◌∷◌, ◌++◌, drop, length, take, Option, Result, Ok, Err, refl, sym, ap, ◌∙◌, subst, arith, append-nil, length-append, take-add}
+use Rattle.std.proofs.Common.{◌≡◌, ◌⊎◌, inl, inr, ℕ, zero, suc, ◌≤◌, ◌<◌, Bool, true, List, [], ◌∷◌, ◌++◌, drop, length, take, Result, Ok, Err, refl, sym, ap, ◌∙◌, subst, arith, append-nil, length-append, take-add}
 use Rattle.std.specs.Prelude.{IfErr, IfOk, sum}
 use Rattle.std.proofs.lemmas.List.{drop_all, length-map, take-append-drop}
 use Rattle.std.proofs.lemmas.List.Sums.{sum_by-cons}
@@ -10,6 +10,7 @@ use Rattle.corr_io.specs.declared.source.Source as sources
 use Rattle.fin_frame.specs.File.{IsFileOf}
 use Rattle.fin_frame.specs.File.IsFileOf.{start as file_start, more as file_more}
 use Rattle.fin_frame.specs.Shown.{ShowWhole}
+use Rattle.fin_frame.proofs.laws.Tracking.{whole-more}
 use Rattle.corr_top.specs.declared.cutting.FileStop.{FileStop}
 use Rattle.corr_top.specs.declared.cutting.FileStop.TheVariants as file
 use Rattle.corr_top.specs.declared.stream.MessageFile.{MessageFile}
@@ -18,9 +19,10 @@ use Rattle.corr_top.specs.declared.stream.Stage.TheVariants as stage
 use Rattle.corr_top.specs.inner.Batching.{messages_in}
 use Rattle.corr_top.specs.inner.Fed.{Fed, IsOver, IsStreamFrom}
 use Rattle.corr_top.specs.Passing.{AreGiven, HasMessages, HasRead, StopsAtMessages}
-use Rattle.corr_top.specs.inner.Stream.{AreShown, IsAtStage, IsEnded, StopsStream, batches_of, messages_so_far}
+use Rattle.corr_top.specs.inner.Stream.{HasFirst, HasStopped, IsAtStage, IsEnded, StopsStream, batches_of, messages_so_far}
 use Rattle.corr_top.specs.inner.Streamed.{EndsAt}
-use Rattle.corr_top.proofs.StreamFiles.{shown_before, shown_front, taken_shown}
+use Rattle.corr_top.proofs.StreamFiles.{shown_before, shown_front}
+use Rattle.corr_top.proofs.StreamSteps.{going_shown}
 
 -- ---- what was given
 
@@ -80,41 +82,39 @@ module _ {S : Type 0} (source : sources.Ghosts S) (from : S) where
   has_messages : (f : MessageFile S) → IsEnded source (source.left from) (source.faults from) f → HasMessages source from f.source f.text (messages_so_far f)
   has_messages f ended = record { took = record { read = ended.read; kept = ended.kept }; are = ended.are }
 
-  -- at each stage the messages that were found stand whole
-  shown_at : (f : MessageFile S) (at : Stage) → IsAtStage source (source.left from) (source.faults from) f at → AreShown (source.left from) (source.faults from) (source.left f.source) (source.faults f.source) f.text (messages_so_far f)
-  shown_at f stage.Going going =
-      let whole = take-append-drop f.taken f.text in
-      inr (source.left f.source, going.read, subst (λ (b : List ℕ). ShowWhole b (messages_so_far f)) whole (taken_shown f.cutter (take f.taken f.text) (drop f.taken f.text) (messages_so_far f) going.cut going.led))
-  shown_at f stage.Whole ended = inl (ended.read, ended.kept, ended.are)
-  shown_at f (stage.Stopped stop) stopped = stopped.shown
+  -- these messages are a file that was read, or the first ones of bytes that were
+  abbrev AreIn : S → List ℕ → List (List ℕ) → Type 0
+  AreIn to bytes messages = HasMessages source from to bytes messages ⊎ (HasRead (source.left from) (source.left to) bytes × ShowWhole bytes messages)
 
-  -- so do the first of them, if they aren't all
-  first_shown : (now : Option (List ℕ)) (count : ℕ) (bytes : List ℕ) (messages : List (List ℕ)) (n : ℕ) → n < length messages → AreShown (source.left from) (source.faults from) now count bytes messages → HasRead (source.left from) bytes × ShowWhole bytes (take n messages)
-  first_shown now count bytes messages n less (inl whole) =
+  -- the messages that were found in a file that stopped, and how that is told of the same bytes
+  stopped_behind : (to : S) (text : List ℕ) (messages : List (List ℕ)) (stop : FileStop) → StopsStream (source.left from) (source.faults from) (source.left to) (source.faults to) text stop
+      → HasFirst (source.left from) (source.left to) text → ShowWhole text messages → (bytes : List ℕ) × AreIn to bytes messages × StopsAtMessages source from to bytes stop
+  stopped_behind to text messages (file.Fault then now) stops first shown =
+      (text ++ first.lost, inr (record { taken = first.taken; short = first.short }, whole-more first.lost shown), record { then_is = stops.0; now_is = stops.1; rose = stops.2 })
+  stopped_behind to text messages (file.TooLarge count begun) stops first shown =
+      (text, inr (record { taken = stops.0.taken; short = stops.0.bound }, shown), (record { read = stops.0; kept = stops.1 }, stops.2))
+  stopped_behind to text messages (file.Framing at) stops first shown =
+      (text, inr (record { taken = stops.0.taken; short = stops.0.bound }, shown), (record { read = stops.0; kept = stops.1 }, stops.2))
+  stopped_behind to text messages file.Memory stops first shown =
+      (text ++ first.lost, inr (record { taken = first.taken; short = first.short }, whole-more first.lost shown), stops)
+
+  stopped_in : (f : MessageFile S) (stop : FileStop) → HasStopped source (source.left from) (source.faults from) f stop
+      → (bytes : List ℕ) × AreIn f.source bytes (messages_so_far f) × StopsAtMessages source from f.source bytes stop
+  stopped_in f stop stopped = elim stopped.shown [
+    | inl whole ↦ (f.text, inl (record { took = record { read = whole.0; kept = whole.1 }; are = whole.2 }), stops_file f.source f.text stop stopped.stops)
+    | inr shown ↦ stopped_behind f.source f.text (messages_so_far f) stop stopped.stops shown.0 shown.1
+  ]
+
+  -- the first of such messages, if they aren't all
+  first_in : (to : S) (bytes : List ℕ) (messages : List (List ℕ)) (n : ℕ) → n < length messages → AreIn to bytes messages → HasRead (source.left from) (source.left to) bytes × ShowWhole bytes (take n messages)
+  first_in to bytes messages n less (inl whole) =
       let parts = split_at n messages less in
-      ((now, whole.0.taken), file_shown whole.2.cut.1 (take n messages) parts.0 parts.1 parts.2)
-  first_shown now count bytes messages n less (inr shown) =
-      ((shown.0, shown.1), shown_front (drop n messages) (take n messages) (subst (λ (ms : List (List ℕ)). ShowWhole bytes ms) (sym (take-append-drop n messages)) shown.2))
-
-  -- the messages that a feed gave
-  pub are_given : (f : Fed S) → IsStreamFrom source (source.left from) (source.faults from) f → AreGiven source from f.file.source (take (sum f.sizes) (messages_so_far f.file))
-  are_given f stream =
-      let messages = messages_so_far f.file in
-      let shown = shown_at f.file f.file.stage stream.stream.at in (
-        f.file.text,
-        dite (dec_lt (sum f.sizes) (length messages))
-            (λ less. inr (first_shown (source.left f.file.source) (source.faults f.file.source) f.file.text messages (sum f.sizes) less shown))
-            (λ all. subst (λ (ms : List (List ℕ)). HasMessages source from f.file.source f.file.text ms ⊎ (HasRead (source.left from) f.file.text × ShowWhole f.file.text ms))
-            (sym (take_whole (sum f.sizes) messages (omega (arith, all)))) (all_given shown)),
-      )
-    where
-      all_given : AreShown (source.left from) (source.faults from) (source.left f.file.source) (source.faults f.file.source) f.file.text (messages_so_far f.file)
-          → HasMessages source from f.file.source f.file.text (messages_so_far f.file) ⊎ (HasRead (source.left from) f.file.text × ShowWhole f.file.text (messages_so_far f.file))
-      all_given (inl whole) = inl (record { took = record { read = whole.0; kept = whole.1 }; are = whole.2 })
-      all_given (inr shown) = inr ((shown.0, shown.1), shown.2)
+      (record { taken = whole.took.read.taken; short = whole.took.read.bound }, file_shown whole.are.cut.1 (take n messages) parts.0 parts.1 parts.2)
+  first_in to bytes messages n less (inr shown) =
+      (shown.0, shown_front (drop n messages) (take n messages) (subst (λ (ms : List (List ℕ)). ShowWhole bytes ms) (sym (take-append-drop n messages)) shown.1))
 
   -- no more than a file may have
-  pub first_few : (f : Fed S) → IsStreamFrom source (source.left from) (source.faults from) f → length (take (sum f.sizes) (messages_so_far f.file)) ≤ 50000
+  first_few : (f : Fed S) → IsStreamFrom source (source.left from) (source.faults from) f → length (take (sum f.sizes) (messages_so_far f.file)) ≤ 50000
   first_few f stream =
       let messages = messages_so_far f.file in
       let parts = length-append (take (sum f.sizes) messages) (drop (sum f.sizes) messages) in
@@ -123,13 +123,28 @@ module _ {S : Type 0} (source : sources.Ghosts S) (from : S) where
       let few = stream.stream.few in
       omega (arith, parts, whole, all, few)
 
-  -- how its file ended, where memory running out among the workers leaves no list of what became of the messages
+  -- the messages that a feed gave
+  given_in : (f : Fed S) → IsStreamFrom source (source.left from) (source.faults from) f → (bytes : List ℕ) → AreIn f.file.source bytes (messages_so_far f.file)
+      → AreGiven source from f.file.source bytes (take (sum f.sizes) (messages_so_far f.file))
+  given_in f stream bytes found =
+      let messages = messages_so_far f.file in
+      record {
+        few = first_few f stream;
+        are = dite (dec_lt (sum f.sizes) (length messages))
+            (λ less. inr (first_in f.file.source bytes messages (sum f.sizes) less found))
+            (λ all. subst (AreIn f.file.source bytes) (sym (take_whole (sum f.sizes) messages (omega (arith, all)))) found);
+      }
+
+  -- what it gave, and how its file ended, where memory running out among the workers leaves no list of what became of the messages
   pub ends_at : {V M : Type 0} (f : Fed S) → IsStreamFrom source (source.left from) (source.faults from) f → (f.over ≡ true → IsOver f) → (served : Result V M) → IfOk served (λ _. f.over ≡ true)
-      → EndsAt source from f.file.source (take (sum f.sizes) (messages_so_far f.file)) served f.file.stage
+      → (bytes : List ℕ) × AreGiven source from f.file.source bytes (take (sum f.sizes) (messages_so_far f.file)) × EndsAt source from f.file.source bytes (take (sum f.sizes) (messages_so_far f.file)) served f.file.stage
   ends_at f stream over served told = by_stage f.file.stage refl stream.stream.at
     where
       messages : List (List ℕ)
       messages = messages_so_far f.file
+
+      given_of : (bytes : List ℕ) → AreIn f.file.source bytes messages → AreGiven source from f.file.source bytes (take (sum f.sizes) messages)
+      given_of bytes found = given_in f stream bytes found
 
       unless_over : {A B : Type 0} (P : Type 0) (r : Result A B) → IfOk r (λ _. f.over ≡ true) → (f.over ≡ true → P) → P ⊎ IfOk r (λ _. ⊥)
       unless_over P (Ok v) told ended_so = inl (ended_so told)
@@ -139,21 +154,31 @@ module _ {S : Type 0} (source : sources.Ghosts S) (from : S) where
       never (Ok v) told not_over = not_over told
       never (Err e) told not_over = tt
 
-      by_stage : (at : Stage) → f.file.stage ≡ at → IsAtStage source (source.left from) (source.faults from) f.file at → EndsAt source from f.file.source (take (sum f.sizes) messages) served at
+      by_stage : (at : Stage) → f.file.stage ≡ at → IsAtStage source (source.left from) (source.faults from) f.file at
+          → (bytes : List ℕ) × AreGiven source from f.file.source bytes (take (sum f.sizes) messages) × EndsAt source from f.file.source bytes (take (sum f.sizes) messages) served at
       by_stage stage.Whole is ended = (
         f.file.text,
-        unless_over (HasMessages source from f.file.source f.file.text (take (sum f.sizes) messages)) served told
-            (λ ended_so. elim (over ended_so) [
-              | inl all ↦ subst (λ (ms : List (List ℕ)). HasMessages source from f.file.source f.file.text ms) (sym (take_whole (sum f.sizes) messages (let e = all.1 in omega (arith, e)))) (has_messages f.file ended)
-              | inr stopped ↦ absurd (let e : stage.Whole ≡ stage.Stopped stopped.0 = sym is ∙ stopped.1 in cc (e))
-            ]),
-        ended.kept,
+        given_of f.file.text (inl (has_messages f.file ended)),
+        (
+          unless_over (HasMessages source from f.file.source f.file.text (take (sum f.sizes) messages)) served told
+              (λ ended_so. elim (over ended_so) [
+                | inl all ↦ subst (λ (ms : List (List ℕ)). HasMessages source from f.file.source f.file.text ms) (sym (take_whole (sum f.sizes) messages (let e = all.1 in omega (arith, e)))) (has_messages f.file ended)
+                | inr stopped ↦ absurd (let e : stage.Whole ≡ stage.Stopped stopped.0 = sym is ∙ stopped.1 in cc (e))
+              ]),
+          ended.kept,
+        ),
       )
-      by_stage (stage.Stopped stop) is stopped = (f.file.text, stops_file f.file.source f.file.text stop stopped.stops)
+      by_stage (stage.Stopped stop) is stopped =
+          let found = stopped_in f.file stop stopped in
+          (found.0, given_of found.0 found.1, found.2)
       by_stage stage.Going is going = (
-        never served told (λ ended_so. elim (over ended_so) [
-          | inl all ↦ absurd (let e : stage.Going ≡ stage.Whole = sym is ∙ all.0 in cc (e))
-          | inr stopped ↦ absurd (let e : stage.Going ≡ stage.Stopped stopped.0 = sym is ∙ stopped.1 in cc (e))
-        ]),
-        going.kept,
+        f.file.text,
+        given_of f.file.text (inr (record { taken = going.read; short = let short = going.short in omega (arith, short) }, going_shown source (source.left from) (source.faults from) f.file going)),
+        (
+          never served told (λ ended_so. elim (over ended_so) [
+            | inl all ↦ absurd (let e : stage.Going ≡ stage.Whole = sym is ∙ all.0 in cc (e))
+            | inr stopped ↦ absurd (let e : stage.Going ≡ stage.Stopped stopped.0 = sym is ∙ stopped.1 in cc (e))
+          ]),
+          going.kept,
+        ),
       )

@@ -1,5 +1,5 @@
 -- A message file that is read in pieces, from one step to the next.
-use Rattle.std.proofs.Common.{◌≡◌, ℕ, ◌+◌, ◌-◌, ◌≤◌, ◌<◌, All, Bool, true, false, List, ◌++◌, drop, length, length-append, take, map, Option, inl, inr, refl, sym, ap, ◌∙◌, subst, arith, vec_capacity}
+use Rattle.std.proofs.Common.{◌≡◌, ℕ, ◌+◌, ◌-◌, ◌≤◌, ◌<◌, All, Bool, true, false, List, [], ◌++◌, append-nil, append_assoc, drop, length, length-append, take, map, Option, inl, inr, refl, sym, ap, ◌∙◌, subst, arith, vec_capacity}
 use Rattle.std.specs.Io.KnownBytes.{Consumes, IsAtEnd}
 use Rattle.std.proofs.KnownBytes.{Consumes-trans}
 use Rattle.std.proofs.lemmas.List.{length-map, take-append-drop}
@@ -22,11 +22,12 @@ use Rattle.corr_top.specs.declared.stream.Stage.{Stage}
 use Rattle.corr_top.specs.declared.stream.Stage.TheVariants as stage
 use Rattle.corr_top.specs.MessageFile.{IsMessageFile, StopsCutting, most_message_bytes}
 use Rattle.corr_top.specs.Reading.{IsRead}
-use Rattle.corr_top.specs.inner.Reading.{AddsRead, IsStopped}
+use Rattle.corr_top.specs.inner.Reading.{AddsRead, AddsSome, IsStopped}
 use Rattle.corr_top.specs.inner.Stops.{file_stop_of_read}
-use Rattle.corr_top.specs.inner.Stream.{AreShown, HasFound, IsAtStage, IsGoing, IsReadOn, IsSameCut, IsStreamOf, StopsStream, messages_so_far, most_found, stage_at, stop_at}
+use Rattle.corr_top.specs.inner.Stream.{AreShown, HasFirst, HasFound, IsAtStage, IsGoing, IsReadOn, IsSameCut, IsStreamOf, StopsStream, messages_so_far, most_found, stage_at, stop_at}
 use Rattle.corr_top.proofs.CutPieces.{cut_on, cut_whole_now, led_grown, led_on, taken_grown}
-use Rattle.corr_top.proofs.OwnedBatches.{behind, grown_places}
+use Rattle.corr_top.specs.inner.Batching.{behind}
+use Rattle.corr_top.proofs.OwnedBatches.{grown_places}
 use Rattle.corr_top.proofs.StreamFiles.{taken_shown}
 
 -- ---- reading on
@@ -34,6 +35,25 @@ use Rattle.corr_top.proofs.StreamFiles.{taken_shown}
 -- what was read stands behind what had been read
 pub read_behind : (left before after : Option (List ℕ)) (old new : List ℕ) → Consumes left before old → AddsRead before after old new → Consumes left after new
 read_behind left before after old new so_far adds = subst (Consumes left after) (sym adds.text) (Consumes-trans left before after old adds.more so_far adds.taken)
+
+-- so do the first bytes of what was read
+pub read_first : (left before after : Option (List ℕ)) (until : ℕ) (old new : List ℕ) → Consumes left before old → AddsSome before after until old new → length old ≤ until → until ≤ most_message_bytes + 1 → HasFirst left after new
+read_first left before after until old new so_far adds fits most =
+    let all : new ++ adds.lost ≡ old ++ (adds.more ++ adds.lost) = ap (λ (l : List ℕ). l ++ adds.lost) adds.text ∙ append_assoc old adds.more adds.lost in
+    let short = adds.short fits in
+    record {
+      lost = adds.lost;
+      taken = subst (Consumes left after) (sym all) (Consumes-trans left before after old (adds.more ++ adds.lost) so_far adds.taken);
+      short = omega (arith, short, most);
+    }
+
+-- and all that was read, where none is lost
+pub first_whole : (left after : Option (List ℕ)) (text : List ℕ) → Consumes left after text → length text ≤ most_message_bytes + 1 → HasFirst left after text
+first_whole left after text taken short = record {
+  lost = [];
+  taken = subst (Consumes left after) (sym (append-nil text)) taken;
+  short = let long = length-append text [] in omega (arith, long, short);
+}
 
 -- it was read to its end, or to a byte past the limit
 pub read_to : (limit : ℕ) (left now : Option (List ℕ)) (text : List ℕ) (ended : Bool) → Consumes left now text → length text ≤ limit + 1 → (ended ≡ true → IsAtEnd now) → (ended ≡ false → limit + 1 ≤ length text) → IsRead limit left now text
@@ -92,7 +112,7 @@ module _ {S : Type 0} (source : sources.Ghosts S) (left : Option (List ℕ)) (fa
 
   -- at each stage the messages that were found stand whole
   pub shown_at : (f : MessageFile S) (at : Stage) → IsAtStage source left faults f at → AreShown left faults (source.left f.source) (source.faults f.source) f.text (messages_so_far f)
-  shown_at f stage.Going going = inr (source.left f.source, going.read, going_shown f going)
+  shown_at f stage.Going going = inr (first_whole left (source.left f.source) f.text going.read (let short = going.short in omega (arith, short)), going_shown f going)
   shown_at f stage.Whole ended = inl (ended.read, ended.kept, ended.are)
   shown_at f (stage.Stopped stop) stopped = stopped.shown
 
@@ -126,10 +146,10 @@ module _ {S : Type 0} (source : sources.Ghosts S) (left : Option (List ℕ)) (fa
     }
 
     -- it stopped
-    pub stopped_with : (stop : FileStop) → HasFound source left faults f → StopsStream left faults (source.left g.source) (source.faults g.source) g.text stop → (rest : Option (List ℕ)) × Consumes left rest g.text
+    pub stopped_with : (stop : FileStop) → HasFound source left faults f → StopsStream left faults (source.left g.source) (source.faults g.source) g.text stop → HasFirst left (source.left g.source) g.text
         → IsStreamOf source left faults (record g { stage = stage.Stopped stop })
-    stopped_with stop has stops rest = record {
-      at = record { stops = stops; shown = inr (rest.0, rest.1, shown_same f g more same text has.places has.shown) };
+    stopped_with stop has stops first = record {
+      at = record { stops = stops; shown = inr (first, shown_same f g more same text has.places has.shown) };
       few = few_same f g more same text has.few;
       places = places_same f g more same text has.places;
       chunk = same.chunk ∙ has.chunk;

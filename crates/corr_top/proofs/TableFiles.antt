@@ -25,14 +25,15 @@ use Rattle.corr_top.specs.declared.reading.ReadStop.{ReadStop}
 use Rattle.corr_top.specs.declared.reading.ReadStop.TheVariants as stop
 use Rattle.corr_top.specs.declared.tables.TableStop.{TableStop}
 use Rattle.standby.specs.Held.{nothing}
-use Rattle.corr_top.specs.Inputs.{Inputs, accounts_in, directory_in, opened, tables_in}
+use Rattle.corr_top.specs.Inputs.{Inputs, accounts_in, chart_in, directory_in, opened, tables_in}
 use Rattle.corr_top.specs.Passing.{Bad, Balances, IsFine, StopsAtSums, StopsAtTable}
 use Rattle.corr_top.specs.inner.Passing.{TellsDecimals}
 use Rattle.corr_top.specs.inner.Reading.{IsStopped}
 use Rattle.corr_top.specs.Steps.{Halts, Step, Walks}
 use Rattle.corr_top.specs.inner.Tables.{AreUntouched, HasAccounts, HasDirectory, PassesTables, StopsAccounts, StopsAtTables, StopsDirectory, StopsKnown, known_steps}
-use Rattle.corr_top.proofs.Walking.{halts_back, halts_front, walks_both}
+use Rattle.corr_top.proofs.Walking.{halts_back, halts_front, walks_both, walks_parts}
 use Rattle.corr_top.specs.declared.room.Tables.{Tables as Files}
+use Rattle.corr_top.specs.declared.status.Status.{Status}
 use Rattle.corr_top.specs.declared.status.Status.TheVariants as no_memory
 use Rattle.corr_top.specs.Stops.{status_of_table}
 use Rattle.corr_top.specs.inner.Stops.{table_stop_of_read}
@@ -114,6 +115,10 @@ no_inputs = record {
 abbrev pub more_steps : List Step
 more_steps = Step.table names.Ssi ∷ Step.table names.Charges ∷ []
 
+-- the steps of the accounts after them
+abbrev pub last_steps : List Step
+last_steps = Step.table names.Accounts ∷ Step.sums ∷ []
+
 module _ {S : Type 0} (source : sources.Ghosts S) (old new : Files S) where
   -- one of the first three stopped the directory, or the accounts
   pub directory_after : (stop : TableStop) → StopsKnown source old new stop → StopsDirectory source old new stop
@@ -152,19 +157,44 @@ module _ {S : Type 0} (source : sources.Ghosts S) (old new : Files S) where
       record {
         inputs = i;
         home_is = refl;
-        halted = halts_front (PassesTables source old new i) (StopsAtTables source old new i (status_of_table stop)) (AreUntouched source old new) known_steps (Step.table names.Accounts ∷ Step.sums ∷ []) q.at.halted (q.accounts, (tt, tt));
+        halted = halts_front (PassesTables source old new i) (StopsAtTables source old new i (status_of_table stop)) (AreUntouched source old new) known_steps last_steps q.at.halted (q.accounts, (tt, tt));
         ssi = q.ssi;
         charges = q.charges;
       }
 
+  -- the accounts or the sums stopped them
+  pub accounts_stopped : (i : Inputs) (s : Status) → Walks (PassesTables source old new i) known_steps
+      → Halts (PassesTables source old new i) (StopsAtTables source old new i s) (AreUntouched source old new) last_steps → new.ssi ≡ old.ssi → new.charges ≡ old.charges
+      → StopsAccounts source old new i.home s
+  accounts_stopped i s passed halts ssi charges = record {
+    inputs = i;
+    home_is = refl;
+    halted = halts_back (PassesTables source old new i) (StopsAtTables source old new i s) (AreUntouched source old new) known_steps last_steps passed halts;
+    ssi = ssi;
+    charges = charges;
+  }
+
+  -- all of them passed
+  pub accounts_read : (i : Inputs) (chart : Chart) → Walks (PassesTables source old new i) known_steps → Walks (PassesTables source old new i) last_steps → chart ≡ chart_in i
+      → new.ssi ≡ old.ssi → new.charges ≡ old.charges → HasAccounts source old new i.home chart
+  accounts_read i chart passed more is ssi charges = record {
+    inputs = i;
+    home_is = refl;
+    passed = walks_both (PassesTables source old new i) known_steps last_steps passed more;
+    chart_is = is;
+    ssi = ssi;
+    charges = charges;
+  }
+
   -- memory ran out after the accounts were read
   pub memory_after : (home : Bic) (chart : Chart) → HasAccounts source old new home chart → StopsAccounts source old new home no_memory.Memory
   memory_after home chart has =
-      let p = has.passed in
+      let parts = walks_parts (PassesTables source old new has.inputs) known_steps last_steps has.passed in
       record {
         inputs = has.inputs;
         home_is = has.home_is;
-        halted = inr (p.0, inr (p.1.0, inr (p.1.1.0, inr (p.1.1.1.0, inl ((accounts.Memory, refl, tt), tt)))));
+        halted = halts_back (PassesTables source old new has.inputs) (StopsAtTables source old new has.inputs no_memory.Memory) (AreUntouched source old new) known_steps last_steps
+            parts.0 (inr (parts.1.0, inl ((accounts.Memory, refl, tt), tt)));
         ssi = has.ssi;
         charges = has.charges;
       }

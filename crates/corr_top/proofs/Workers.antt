@@ -116,7 +116,7 @@ module _ {Job : Type 0} (o : Opening) (reading : Job → Result Pay NoPay) (jobs
         let w = get_there after k (omega (arith, below, served.passes, served.one_each)) in
         let q = get_there news k (omega (arith, below, served.one_each, count)) in
         let chain = served.served k numbers (starting q.0) w.0 there.1.1 (get_mapped starting news k q.0 q.1) w.1 in
-        each_stands o reading jobs made closes.log history closes.is closes.legal numbers (starting q.0) w.0 chain (closes.parts k w.0.pass (get_mapped (λ (x : Worker). x.pass) after k w.0 w.1)).known there.1.2 n there.1.3
+        each_stands o reading jobs made closes.log history closes.is closes.legal numbers (starting q.0) w.0 (λ why off. absurd (none-some why off)) chain (closes.parts k w.0.pass (get_mapped (λ (x : Worker). x.pass) after k w.0 w.1)).known there.1.2 n there.1.3
 
     pub are_told : AreTold o history readings made
     are_told = record {

@@ -8,9 +8,9 @@ use Rattle.day_model.specs.declared.pay.Pay.{Pay}
 use Rattle.day_model.specs.Chart.{Chart}
 use Rattle.day_model.specs.Legal.{IsLegal}
 use Rattle.day_model.specs.Next.{entered_at, fold_of}
-use Rattle.jrn_book.specs.Answers.{IsFull, need_of}
+use Rattle.jrn_book.specs.Answers.{FindsNoRoom}
 use Rattle.jrn_book.specs.Batches.{entered_of}
-use Rattle.jrn_book.specs.Journal.{IsJournal, file_of}
+use Rattle.jrn_book.specs.Journal.{IsJournal}
 use Rattle.jrn_file.specs.Faults.{TellsCounts}
 use Rattle.corr_top.specs.declared.answers.BookStop.{BookStop}
 use Rattle.corr_top.specs.declared.answers.BookStop.TheVariants as booking
@@ -45,26 +45,21 @@ pub record AreAnswered (i : Inputs) : Type 0 where
   pub entered : (k : ℕ) (pay : Pay) → slice_get (pays_of i) k ≡ Some pay → IsSome (entered_at pay.mir (new_in i))
   pub alone : i.workers ≡ 1 → new_in i ≡ fold_of i.chart i.history (pays_of i) i.day
 
--- A pay is new after a history and finds no room there, since it has the most entries, or the file would have more than 2^30 bytes.
--- The numbers are those of that history: how many entries, the place of the closed gate, and the bytes that this pay needs.
-pub record FindsNoRoom (chart : Chart) (history : List Entry) (pay : Pay) (day : Day) (entries end need : ℕ) : Type 0 where
-  pub new : entered_at pay.mir history ≡ None
-  pub entries_are : entries ≡ length history
-  pub end_is : end + 1 ≡ length (file_of chart history)
-  pub need_is : need ≡ need_of chart history pay day
-  pub full : IsFull history end need
+-- A pay found no room in what was entered then: a beginning of what is left, which has all of the journal as it was opened. The numbers
+-- are those of that history.
+pub record HadNoRoom (chart : Chart) (history : List Entry) (day : Day) (left : List Entry) (pay : Pay) (entries end need : ℕ) : Type 0 where
+  pub front : List Entry
+  pub later : List Entry
+  pub left_is : left ≡ (history ++ front) ++ later
+  pub finds : FindsNoRoom chart (history ++ front) pay day entries end need
 
--- The first pay of the file that found no room in what was entered then: a beginning of what is left, which has all of the
--- journal as it was opened. Those ahead of it in the file are entered.
+-- The first pay of the file that found no room. Those ahead of it in the file are entered.
 pub record LacksRoomThen (chart : Chart) (history : List Entry) (pays : List Pay) (day : Day) (left : List Entry) (entries end need : ℕ) : Type 0 where
   pub place : ℕ
   pub pay : Pay
   pub pay_is : slice_get pays place ≡ Some pay
   pub ahead : (k : ℕ) (other : Pay) → k < place → slice_get pays k ≡ Some other → IsSome (entered_at other.mir left)
-  pub front : List Entry
-  pub later : List Entry
-  pub left_is : left ≡ (history ++ front) ++ later
-  pub finds : FindsNoRoom chart (history ++ front) pay day entries end need
+  pub had : HadNoRoom chart history day left pay entries end need
 
 -- Of one worker: the first pay that found no room, in the history that those ahead of it make, entered as one thread does.
 pub record LacksRoom (chart : Chart) (history : List Entry) (pays : List Pay) (day : Day) (left : List Entry) (entries end need : ℕ) : Type 0 where
@@ -84,22 +79,13 @@ BookCause d old new chart history pays day workers left (booking.Full entries en
     × (workers ≡ 1 → LacksRoom chart history pays day left entries end need)
 BookCause d old new chart history pays day workers left booking.Memory = Unit {0}
 
--- a pay found no room in what was entered then, a beginning of what is left
-pub record HadNoRoom (chart : Chart) (history : List Entry) (day : Day) (left : List Entry) (pay : Pay) : Type 0 where
-  pub front : List Entry
-  pub later : List Entry
-  pub left_is : left ≡ (history ++ front) ++ later
-  pub entries : ℕ
-  pub end : ℕ
-  pub need : ℕ
-  pub finds : FindsNoRoom chart (history ++ front) pay day entries end need
-
--- Where room was wanting, each pay of the file was tried: its reference is entered, or it found no room. A failed disk and out
+-- Where room was wanting, each pay of the file was tried: its reference is entered, or it had no room. A failed disk and out
 -- of memory leave pays that were not tried.
 abbrev pub EachTried : Chart → List Entry → List Pay → Day → List Entry → BookStop → Type 0
 EachTried chart history pays day left (booking.DiskFault before after) = Unit {0}
 EachTried chart history pays day left (booking.Full entries end need) =
-    (k : ℕ) (pay : Pay) → slice_get pays k ≡ Some pay → IsSome (entered_at pay.mir left) ⊎ HadNoRoom chart history day left pay
+    (k : ℕ) (pay : Pay) → slice_get pays k ≡ Some pay
+    → IsSome (entered_at pay.mir left) ⊎ ((count : ℕ) × (gate : ℕ) × (bytes : ℕ) × HadNoRoom chart history day left pay count gate bytes)
 EachTried chart history pays day left booking.Memory = Unit {0}
 
 -- the first of these pays is not entered

@@ -24,6 +24,8 @@ use Rattle.corr_top.specs.declared.status.Status.{Status}
 use Rattle.corr_top.specs.declared.status.Status.TheVariants as status
 use Rattle.corr_top.specs.Inputs.{Inputs, opened}
 use Rattle.corr_top.specs.OnDisk.{HasNotFailed, IsOnDisk, IsUnwritten}
+use Rattle.corr_top.specs.Ready.{IsSure}
+use Rattle.corr_top.specs.StepMeaning.{StepMeaning}
 use Rattle.corr_top.specs.Stops.{status_of_change}
 
 -- ---- what changes
@@ -121,3 +123,13 @@ module _ {D : Type 0} (d : disks.Ghosts D) (old new : D) where
       ((why : Why) × (s ≡ status.Table names.Accounts 1 why) × StopsAtRow told why)
       ⊎ (((stop : ChangeFault) × (s ≡ status_of_change what (length history) stop) × (told ≡ None) × StopsAtChange chart history what stop)
       ⊎ ((s ≡ status.Memory) × HasNotFailed d old new × IsUnwritten d old new))
+
+-- ---- the step
+
+abbrev pub change_step : StepMeaning
+change_step = record {
+  passes = λ source disk old new i. MayChange i.chart i.history (row_fault i.chart (lent_in i) i.change) (what_of i);
+  stops = λ source disk old new i s. StopsChanging disk old.disk new.disk i.chart i.history (row_fault i.chart (lent_in i) i.change) (what_of i) s;
+  untouched = λ disk old new. IsUnwritten disk old.disk new.disk;
+  ready = λ source disk old new i. IsSure disk old.disk new.disk × MayChange i.chart i.history (row_fault i.chart (lent_in i) i.change) (what_of i);
+}

@@ -1,7 +1,7 @@
 -- A journal of version 1 that is carried over to a second disk: what that is, and how it stops.
-use Rattle.std.specs.Prelude.{◌≡◌, ℕ, IfSome, IsTrue, List, length, Option, Some, None}
+use Rattle.std.specs.Prelude.{◌≡◌, ◌≤◌, ℕ, IfSome, IsTrue, List, length, Option, Some, None}
 use Rattle.corr_disk.specs.declared.disk.Disk as disks
-use Rattle.corr_disk.specs.Disk.{LeavesOnly, Only}
+use Rattle.corr_disk.specs.Disk.{LeavesOnly, Only, most_disk_bytes}
 use Rattle.day_model.specs.declared.entry.Entry.{Entry}
 use Rattle.day_model.specs.Chart.{Chart}
 use Rattle.jrn_book.specs.declared.version.Version.TheVariants.{One}
@@ -13,7 +13,11 @@ use Rattle.jrn_file.specs.declared.fault.OpenFault.{OpenFault}
 use Rattle.jrn_file.specs.Faults.{IsRefusal, MakeWithCause}
 use Rattle.jrn_file.specs.Making.{IsOther, IsUnmade, IsUnmadeOrMadeWith}
 use Rattle.jrn_file.specs.Reading.{opened_of, whole}
+use Rattle.corr_top.specs.declared.status.Status.TheVariants as status
 use Rattle.corr_top.specs.OnDisk.{HasNotFailed, IsMakeable, IsOnDisk, IsUnwritten}
+use Rattle.corr_top.specs.Ready.{IsSure}
+use Rattle.corr_top.specs.StepMeaning.{StepMeaning}
+use Rattle.corr_top.specs.Stops.{status_of_copying, status_of_opening}
 
 -- bytes stand for the journal of version 1 of these accounts and this history
 abbrev pub StandsForOld : List ℕ → Chart → List Entry → Type 0
@@ -65,3 +69,35 @@ module _ {D : Type 0} (d : disks.Ghosts D) where
       pub untouched : (first : ℕ) → IsTrue (d.honest old) → IsOther (d.reads old) first → IsUnwritten d old new
       pub any_moment : CopiesInTurn
       pub honest : d.honest new ≡ d.honest old
+
+-- ---- the steps
+
+-- there is a second disk
+abbrev pub second_step : StepMeaning
+second_step = record {
+  passes = λ source disk old new i. HasSecond old.disk2;
+  stops = λ source disk old new i s. (s ≡ status.NoSecond) × (old.disk2 ≡ None);
+  untouched = λ disk old new. Unit {0};
+  ready = λ source disk old new i. HasSecond old.disk2;
+}
+
+-- the journal of version 1 is opened
+abbrev pub old_journal_step : StepMeaning
+old_journal_step = record {
+  passes = λ source disk old new i. HoldsOld disk old.disk i.chart i.history;
+  stops = λ source disk old new i s. (stop : OpenFault) × (s ≡ status_of_opening stop) × StopsOpeningOld disk old.disk new.disk stop;
+  untouched = λ disk old new. new.disk ≡ old.disk;
+  ready = λ source disk old new i. IsSure disk old.disk new.disk × HoldsOld disk old.disk i.chart i.history;
+}
+
+-- its copy is made
+abbrev pub copy_step : StepMeaning
+copy_step = record {
+  passes = λ source disk old new i. OnSecond (λ from to. HasCopied disk from to i.chart i.history) old.disk2 new.disk2;
+  stops = λ source disk old new i s. (stop : MakeFault) × (s ≡ status_of_copying (length i.history) stop)
+      × OnSecond (λ from to. StopsCopying disk from to i.chart i.history stop) old.disk2 new.disk2
+      × HasNotFailed disk old.disk new.disk × IsUnwritten disk old.disk new.disk;
+  untouched = λ disk old new. new.disk2 ≡ old.disk2;
+  ready = λ source disk old new i. OnSecond (λ from to. IsSure disk from to × IsMakeable disk from) old.disk2 new.disk2
+      × (length (file_of i.chart i.history) ≤ most_disk_bytes);
+}

@@ -21,8 +21,10 @@ use Rattle.corr_top.specs.declared.status.Status.{Status}
 use Rattle.corr_top.specs.MessageFile.{most_message_bytes}
 use Rattle.corr_top.specs.OnDisk.{HasNotFailed, IsUnwritten}
 use Rattle.corr_top.specs.Reading.{Failed, Took}
+use Rattle.corr_top.specs.Ready.{IsSure, TellsAll}
 use Rattle.corr_top.specs.Ship.{joined_all}
-use Rattle.corr_top.specs.Stops.{status_of_taking}
+use Rattle.corr_top.specs.StepMeaning.{StepMeaning}
+use Rattle.corr_top.specs.Stops.{status_of_file, status_of_opening, status_of_taking}
 
 -- ---- packets in a file
 
@@ -31,13 +33,13 @@ abbrev pub packet_bytes : Packet → List ℕ
 packet_bytes packet = packet_of packet.number packet.body
 
 -- number and length have four bytes each
-pub record IsShort (packet : Packet) : Type 0 where
+pub record FitsFourBytes (packet : Packet) : Type 0 where
   pub few : packet.number < 2 ^ 32
   pub short : length packet.body < 2 ^ 32
 
 -- the bytes are these packets, one after another
 pub record ArePackets (bytes : List ℕ) (packets : List Packet) : Type 0 where
-  pub each : All IsShort packets
+  pub each : All FitsFourBytes packets
   pub are : bytes ≡ joined_all (map packet_bytes packets)
 
 -- at this place packets end, more bytes follow, and no whole packet stands in front of them
@@ -141,7 +143,7 @@ module _ {D : Type 0} (d : disks.Ghosts D) where
     pub taken : ℕ
     pub packet : Packet
     pub at : slice_get packets taken ≡ Some packet
-    pub short : IsShort packet
+    pub short : FitsFourBytes packet
     pub after : Held
     pub good : IsHeld after
     pub ships : records_of after ≡ shipped (records_of held) (take taken packets)
@@ -154,3 +156,33 @@ module _ {D : Type 0} (d : disks.Ghosts D) where
   abbrev pub StopsAtTake : D → D → Held → List Packet → Status → Type 0
   StopsAtTake old new held packets s =
       (stop : TakeFault) × (entries : ℕ) × (s ≡ status_of_taking entries stop) × StopsTaking old new held packets stop entries
+
+-- ---- the steps
+
+-- the follower begins
+abbrev pub begin_step : StepMeaning
+begin_step = record {
+  passes = λ source disk old new i. HoldsRecords disk old.disk i.held;
+  stops = λ source disk old new i s. (stop : OpenFault) × (s ≡ status_of_opening stop) × StopsBeginning disk old.disk new.disk stop;
+  untouched = λ disk old new. new.disk ≡ old.disk;
+  ready = λ source disk old new i. IsSure disk old.disk new.disk × HoldsRecords disk old.disk i.held;
+}
+
+-- the packets are read
+abbrev pub packets_step : StepMeaning
+packets_step = record {
+  passes = λ source disk old new i. HasPackets source old.received new.received i.messages i.packets;
+  stops = λ source disk old new i s. (stop : FileStop) × (s ≡ status_of_file stop) × StopsAtPackets source old.received new.received i.messages stop
+      × HasNotFailed disk old.disk new.disk × IsUnwritten disk old.disk new.disk;
+  untouched = λ disk old new. new.received ≡ old.received;
+  ready = λ source disk old new i. TellsAll source old.received new.received i.messages × (length i.messages ≤ most_message_bytes) × ArePackets i.messages i.packets;
+}
+
+-- they are taken
+abbrev pub take_step : StepMeaning
+take_step = record {
+  passes = λ source disk old new i. HasTaken disk old.disk new.disk i.held i.packets;
+  stops = λ source disk old new i s. StopsAtTake disk old.disk new.disk i.held i.packets s;
+  untouched = λ disk old new. IsUnwritten disk old.disk new.disk;
+  ready = λ source disk old new i. IsSure disk old.disk new.disk × IsTakeable i.held i.packets;
+}

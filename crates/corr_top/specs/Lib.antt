@@ -7,6 +7,8 @@ pub mod Message
 pub mod Out
 pub mod Steps
 pub mod Inputs
+pub mod StepMeaning
+pub mod Ready
 pub mod OnDisk
 pub mod Booking
 pub mod Changed

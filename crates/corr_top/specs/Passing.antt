@@ -1,5 +1,5 @@
 -- What passing a step of a command means, and how it stops there.
-use Rattle.std.specs.Prelude.{ℕ, ◌≡◌, ◌⊎◌, ◌≤◌, ◌<◌, List, length, Option, Some, None, pos}
+use Rattle.std.specs.Prelude.{ℕ, ◌≡◌, ◌⊎◌, ◌+◌, ◌≤◌, ◌<◌, List, length, Option, Some, None, pos}
 use Rattle.std.specs.Io.KnownBytes.{Consumes}
 use Rattle.corr_disk.specs.declared.disk.Disk as disks
 use Rattle.corr_ids.specs.declared.day.Day.{Day}
@@ -12,11 +12,8 @@ use Rattle.day_model.specs.declared.fault.AccountsFault.TheVariants as refused
 use Rattle.day_model.specs.Chart.{opening_sum}
 use Rattle.day_model.specs.Gap.{TellsUnbalanced}
 use Rattle.day_model.specs.Laws.{IsLatest}
-use Rattle.day_model.specs.declared.pay.Pay.{Pay}
 use Rattle.jrn_file.specs.declared.fault.MakeFault.{MakeFault}
 use Rattle.jrn_file.specs.declared.fault.OpenFault.{OpenFault}
-use Rattle.pay_returns.specs.Making.{TellsReturnFault}
-use Rattle.pay_returns.specs.declared.fault.ReturnFault.{ReturnFault}
 use Rattle.ref_tables.specs.Rows.{most_table_bytes}
 use Rattle.ref_tables.specs.declared.fault.TableName.{TableName}
 use Rattle.ref_tables.specs.declared.fault.TableName.TheVariants as names
@@ -37,16 +34,18 @@ use Rattle.corr_top.specs.declared.status.Status.TheVariants as status
 use Rattle.corr_top.specs.declared.tables.TableStop.{TableStop}
 use Rattle.corr_top.specs.declared.tables.TableStop.TheVariants as table
 use Rattle.corr_top.specs.Booking.{AreAnswered, IsBack, StopsBooking}
-use Rattle.corr_top.specs.Changed.{MayChange, StopsChanging, lent_in, row_fault, what_of}
-use Rattle.corr_top.specs.Copied.{HasCopied, HasSecond, HoldsOld, OnSecond, StopsCopying, StopsOpeningOld}
-use Rattle.corr_top.specs.Followed.{HasPackets, HasTaken, HoldsRecords, StopsAtPackets, StopsAtTake, StopsBeginning}
-use Rattle.corr_top.specs.Inputs.{Inputs, accounts_in, chart_in, tables_in}
-use Rattle.corr_top.specs.MessageFile.{IsMessageFile, StopsCutting, most_message_bytes}
+use Rattle.corr_top.specs.Changed.{change_step}
+use Rattle.corr_top.specs.Copied.{copy_step, old_journal_step, second_step}
+use Rattle.corr_top.specs.Followed.{begin_step, packets_step, take_step}
+use Rattle.corr_top.specs.Inputs.{Inputs, accounts_in, chart_in, pays_of, tables_in}
+use Rattle.corr_top.specs.MessageFile.{IsMessageFile, StopsCutting, most_message_bytes, most_messages}
 use Rattle.corr_top.specs.OnDisk.{HasNotFailed, HoldsJournal, IsMakeable, IsUnwritten, StopsMaking, StopsOpening}
 use Rattle.corr_top.specs.Reading.{Failed, Took}
-use Rattle.corr_top.specs.Returned.{IsReturnable, IsReturned, StopsReturning}
+use Rattle.corr_top.specs.Ready.{HasRoomForAll, IsSure, TellsAll}
+use Rattle.corr_top.specs.Returned.{book_return_step, make_return_step}
+use Rattle.corr_top.specs.StepMeaning.{StepMeaning}
 use Rattle.corr_top.specs.Steps.{Step}
-use Rattle.corr_top.specs.Stops.{status_of_booking, status_of_copying, status_of_day, status_of_file, status_of_making, status_of_opening, status_of_return, status_of_sums, status_of_table}
+use Rattle.corr_top.specs.Stops.{status_of_booking, status_of_day, status_of_file, status_of_making, status_of_opening, status_of_sums, status_of_table}
 
 -- ---- a table
 
@@ -92,6 +91,24 @@ StopsAtTable source old new bytes fault (table.Fault then now) = Failed source.f
 StopsAtTable source old new bytes fault (table.Bad name row why) = Took source.left source.faults most_table_bytes old new bytes × (fault ≡ Some (name, row, why))
 StopsAtTable source old new bytes fault table.Memory = source.faults new ≡ source.faults old
 
+module _ {S : Type 0} (source : sources.Ghosts S) (old new : Tables S) (i : Inputs) where
+  -- the table of this name was read and is fine
+  abbrev pub PassesTable : TableName → Type 0
+  PassesTable name = IsFine source (table_at name old) (table_at name new) (table_file name i) (table_fault name i)
+
+  -- it wasn't, for a reason that the status tells
+  abbrev pub StopsTable : Status → TableName → Type 0
+  StopsTable s name = (stop : TableStop) × (s ≡ status_of_table stop) × StopsAtTable source (table_at name old) (table_at name new) (table_file name i) (table_fault name i) stop
+
+-- it is read
+abbrev pub table_step : TableName → StepMeaning
+table_step name = record {
+  passes = λ source disk old new i. PassesTable source old.tables new.tables i name;
+  stops = λ source disk old new i s. StopsTable source old.tables new.tables i s name;
+  untouched = λ disk old new. table_at name new.tables ≡ table_at name old.tables;
+  ready = λ source disk old new i. TellsAll source (table_at name old.tables) (table_at name new.tables) (table_file name i) × (table_fault name i ≡ None);
+}
+
 -- ---- the sums of the openings
 
 -- the openings of each currency sum to 0
@@ -102,6 +119,19 @@ Balances i = (ccy : Ccy) → opening_sum ccy (accounts_in i) ≡ pos 0
 abbrev pub StopsAtSums : Inputs → AccountsFault → Type 0
 StopsAtSums i (refused.Unbalanced ccy decimals sum) = TellsUnbalanced (accounts_in i) (refused.Unbalanced ccy decimals sum) × (decimals ≤ most_decimals)
 StopsAtSums i refused.Memory = Unit {0}
+
+-- a status tells it
+abbrev pub StopsSums : Inputs → Status → Type 0
+StopsSums i s = (stop : AccountsFault) × (s ≡ status_of_sums stop) × StopsAtSums i stop
+
+-- they are added up
+abbrev pub sums_step : StepMeaning
+sums_step = record {
+  passes = λ source disk old new i. Balances i;
+  stops = λ source disk old new i s. StopsSums i s;
+  untouched = λ disk old new. Unit {0};
+  ready = λ source disk old new i. Balances i;
+}
 
 -- ---- the message file
 
@@ -117,21 +147,42 @@ StopsAtMessages source old new bytes (file.TooLarge count messages) = Took sourc
 StopsAtMessages source old new bytes (file.Framing at) = Took source.left source.faults most_message_bytes old new bytes × StopsCutting bytes (file.Framing at)
 StopsAtMessages source old new bytes file.Memory = source.faults new ≡ source.faults old
 
+-- it is read
+abbrev pub messages_step : StepMeaning
+messages_step = record {
+  passes = λ source disk old new i. HasMessages source old.messages new.messages i.messages i.cut;
+  stops = λ source disk old new i s. (stop : FileStop) × (s ≡ status_of_file stop) × StopsAtMessages source old.messages new.messages i.messages stop × HasNotFailed disk old.disk new.disk;
+  untouched = λ disk old new. new.messages ≡ old.messages;
+  ready = λ source disk old new i. TellsAll source old.messages new.messages i.messages × IsMessageFile i.messages i.cut;
+}
+
+-- that of the received messages is read
+abbrev pub received_step : StepMeaning
+received_step = record {
+  passes = λ source disk old new i. HasMessages source old.received new.received i.messages i.cut;
+  stops = λ source disk old new i s. (stop : FileStop) × (s ≡ status_of_file stop) × StopsAtMessages source old.received new.received i.messages stop
+      × HasNotFailed disk old.disk new.disk × IsUnwritten disk old.disk new.disk;
+  untouched = λ disk old new. new.received ≡ old.received;
+  ready = λ source disk old new i. TellsAll source old.received new.received i.messages × IsMessageFile i.messages i.cut;
+}
+
 -- ---- the serving of its messages, while it is read
 
--- some first bytes of what a source had were read
-abbrev pub HasRead : Option (List ℕ) → List ℕ → Type 0
-HasRead left bytes = (rest : Option (List ℕ)) × Consumes left rest bytes
+-- these bytes of a source were read, at most one more than a message file may have
+pub record HasRead (before after : Option (List ℕ)) (bytes : List ℕ) : Type 0 where
+  pub taken : Consumes before after bytes
+  pub short : length bytes ≤ most_message_bytes + 1
 
--- the messages that were given while the file was read: all of it, which was read; or its first ones, which the bytes that were read by
--- then show to be whole
-abbrev pub AreGiven : {S : Type 0} → sources.Ghosts S → S → S → List (List ℕ) → Type 0
-AreGiven source old new given = (bytes : List ℕ) × (HasMessages source old new bytes given ⊎ (HasRead (source.left old) bytes × ShowWhole bytes given))
+-- the messages that were given while the file was read, of which these bytes were: all of it, which was read; or its first ones, which the
+-- bytes show to be whole. They are no more than a file may have.
+pub record AreGiven {S : Type 0} (source : sources.Ghosts S) (old new : S) (bytes : List ℕ) (given : List (List ℕ)) : Type 0 where
+  pub few : length given ≤ most_messages
+  pub are : HasMessages source old new bytes given ⊎ (HasRead (source.left old) (source.left new) bytes × ShowWhole bytes given)
 
--- memory ran out before the first message was served: the source didn't fail, and nothing was written
+-- memory ran out before the first message was served: nothing of the source was read, and nothing was written
 pub record HasNotBegun {S K D : Type 0} (source : sources.Ghosts S) (disk : disks.Ghosts D) (old new : Room S K D) (s : Status) : Type 0 where
   pub status_is : s ≡ status.Memory
-  pub kept : source.faults new.messages ≡ source.faults old.messages
+  pub unread : new.messages ≡ old.messages
   pub sure : HasNotFailed disk old.disk new.disk
   pub unwritten : IsUnwritten disk old.disk new.disk
 
@@ -142,7 +193,7 @@ pub record StopsInFile {S K D : Type 0} (source : sources.Ghosts S) (disk : disk
   pub stop : FileStop
   pub status_is : s ≡ status_of_file stop
   pub stops : StopsAtMessages source old.messages new.messages i.messages stop
-  pub given : AreGiven source old.messages new.messages i.cut
+  pub given : AreGiven source old.messages new.messages i.messages i.cut
   pub left : StopsBooking disk old.disk new.disk i booking.Memory
 
 -- the file was read to its end, and not each of its pays was entered
@@ -155,6 +206,16 @@ pub record StopsInPays {S K D : Type 0} (source : sources.Ghosts S) (disk : disk
 -- how serving stops
 abbrev pub StopsServing : {S K D : Type 0} → sources.Ghosts S → disks.Ghosts D → Room S K D → Room S K D → Inputs → Status → Type 0
 StopsServing source disk old new i s = HasNotBegun source disk old new s ⊎ (StopsInFile source disk old new i s ⊎ StopsInPays source disk old new i s)
+
+-- they are served
+abbrev pub serve_step : StepMeaning
+serve_step = record {
+  passes = λ source disk old new i. HasMessages source old.messages new.messages i.messages i.cut × AreAnswered i;
+  stops = λ source disk old new i s. StopsServing source disk old new i s;
+  untouched = λ disk old new. (new.messages ≡ old.messages) × IsUnwritten disk old.disk new.disk;
+  ready = λ source disk old new i. (TellsAll source old.messages new.messages i.messages × IsMessageFile i.messages i.cut)
+      × (IsSure disk old.disk new.disk × HasRoomForAll i.chart i.history (pays_of i));
+}
 
 -- ---- the file of messages that leave
 
@@ -181,75 +242,90 @@ StopsAtSent source old new bytes (file.TooLarge count messages) = IsSentTooLarge
 StopsAtSent source old new bytes (file.Framing at) = ⊥
 StopsAtSent source old new bytes file.Memory = source.faults new ≡ source.faults old
 
--- ---- a step of a command over the objects of a room, as they were and as they are
+-- it is read
+abbrev pub sent_step : StepMeaning
+sent_step = record {
+  passes = λ source disk old new i. HasSent source old.sent new.sent i.messages;
+  stops = λ source disk old new i s. (stop : FileStop) × (s ≡ status_of_file stop) × StopsAtSent source old.sent new.sent i.messages stop
+      × HasNotFailed disk old.disk new.disk × IsUnwritten disk old.disk new.disk;
+  untouched = λ disk old new. new.sent ≡ old.sent;
+  ready = λ source disk old new i. TellsAll source old.sent new.sent i.messages × (length i.messages ≤ most_sent_bytes);
+}
 
--- how a command passes there: what the step reads was read and is right, or what it tests holds
+-- ---- the journal
+
+-- it is made
+abbrev pub make_step : StepMeaning
+make_step = record {
+  passes = λ source disk old new i. IsMakeable disk old.disk;
+  stops = λ source disk old new i s. (stop : MakeFault) × (s ≡ status_of_making stop) × StopsMaking disk old.disk new.disk (chart_in i) stop;
+  untouched = λ disk old new. new.disk ≡ old.disk;
+  ready = λ source disk old new i. IsSure disk old.disk new.disk × IsMakeable disk old.disk;
+}
+
+-- it is opened
+abbrev pub open_journal_step : StepMeaning
+open_journal_step = record {
+  passes = λ source disk old new i. HoldsJournal disk old.disk i.chart i.history;
+  stops = λ source disk old new i s. (stop : OpenFault) × (s ≡ status_of_opening stop) × StopsOpening disk old.disk new.disk stop;
+  untouched = λ disk old new. new.disk ≡ old.disk;
+  ready = λ source disk old new i. IsSure disk old.disk new.disk × HoldsJournal disk old.disk i.chart i.history;
+}
+
+-- the day is held against that of its last entry
+abbrev pub day_step : StepMeaning
+day_step = record {
+  passes = λ source disk old new i. IsLatest i.history i.day;
+  stops = λ source disk old new i s. (stop : Day) × (s ≡ status_of_day stop) × IsBack i.history i.day stop × HasNotFailed disk old.disk new.disk;
+  untouched = λ disk old new. Unit {0};
+  ready = λ source disk old new i. IsLatest i.history i.day;
+}
+
+-- its disk is left aside
+abbrev pub aside_step : StepMeaning
+aside_step = record {
+  passes = λ source disk old new i. new.disk ≡ old.disk;
+  stops = λ source disk old new i s. ⊥;
+  untouched = λ disk old new. new.disk ≡ old.disk;
+  ready = λ source disk old new i. Unit {0};
+}
+
+-- ---- each step by its name
+
+-- what it means
+abbrev pub step_meaning : Step → StepMeaning
+step_meaning (Step.table name) = table_step name
+step_meaning Step.sums = sums_step
+step_meaning Step.make = make_step
+step_meaning Step.open_journal = open_journal_step
+step_meaning Step.day = day_step
+step_meaning Step.messages = messages_step
+step_meaning Step.serve = serve_step
+step_meaning Step.received = received_step
+step_meaning Step.sent = sent_step
+step_meaning Step.change = change_step
+step_meaning Step.second = second_step
+step_meaning Step.old_journal = old_journal_step
+step_meaning Step.copy = copy_step
+step_meaning Step.make_return = make_return_step
+step_meaning Step.book_return = book_return_step
+step_meaning Step.begin = begin_step
+step_meaning Step.packets = packets_step
+step_meaning Step.take = take_step
+step_meaning Step.aside = aside_step
+
+-- how a command passes there
 abbrev pub Passes : {S K D : Type 0} → sources.Ghosts S → disks.Ghosts D → Room S K D → Room S K D → Inputs → Step → Type 0
-Passes source disk old new i (Step.table name) = IsFine source (table_at name old.tables) (table_at name new.tables) (table_file name i) (table_fault name i)
-Passes source disk old new i Step.sums = Balances i
-Passes source disk old new i Step.make = IsMakeable disk old.disk
-Passes source disk old new i Step.open_journal = HoldsJournal disk old.disk i.chart i.history
-Passes source disk old new i Step.day = IsLatest i.history i.day
-Passes source disk old new i Step.messages = HasMessages source old.messages new.messages i.messages i.cut
-Passes source disk old new i Step.serve = HasMessages source old.messages new.messages i.messages i.cut × AreAnswered i
-Passes source disk old new i Step.received = HasMessages source old.received new.received i.messages i.cut
-Passes source disk old new i Step.sent = HasSent source old.sent new.sent i.messages
-Passes source disk old new i Step.change = MayChange i.chart i.history (row_fault i.chart (lent_in i) i.change) (what_of i)
-Passes source disk old new i Step.second = HasSecond old.disk2
-Passes source disk old new i Step.old_journal = HoldsOld disk old.disk i.chart i.history
-Passes source disk old new i Step.copy = OnSecond (λ from to. HasCopied disk from to i.chart i.history) old.disk2 new.disk2
-Passes source disk old new i Step.make_return = (pay : Pay) × IsReturnable i pay
-Passes source disk old new i Step.book_return = IsReturned i
-Passes source disk old new i Step.begin = HoldsRecords disk old.disk i.held
-Passes source disk old new i Step.packets = HasPackets source old.received new.received i.messages i.packets
-Passes source disk old new i Step.take = HasTaken disk old.disk new.disk i.held i.packets
-Passes source disk old new i Step.aside = new.disk ≡ old.disk
+Passes source disk old new i step = (step_meaning step).passes source disk old new i
 
--- how a command stops there with this status: for a reason that the status tells, by its cause
+-- how it stops there with this status
 abbrev pub StopsAt : {S K D : Type 0} → sources.Ghosts S → disks.Ghosts D → Room S K D → Room S K D → Inputs → Status → Step → Type 0
-StopsAt source disk old new i s (Step.table name) =
-    (stop : TableStop) × (s ≡ status_of_table stop) × StopsAtTable source (table_at name old.tables) (table_at name new.tables) (table_file name i) (table_fault name i) stop
-StopsAt source disk old new i s Step.sums = (stop : AccountsFault) × (s ≡ status_of_sums stop) × StopsAtSums i stop
-StopsAt source disk old new i s Step.make = (stop : MakeFault) × (s ≡ status_of_making stop) × StopsMaking disk old.disk new.disk (chart_in i) stop
-StopsAt source disk old new i s Step.open_journal = (stop : OpenFault) × (s ≡ status_of_opening stop) × StopsOpening disk old.disk new.disk stop
-StopsAt source disk old new i s Step.day = (stop : Day) × (s ≡ status_of_day stop) × IsBack i.history i.day stop × HasNotFailed disk old.disk new.disk
-StopsAt source disk old new i s Step.messages = (stop : FileStop) × (s ≡ status_of_file stop) × StopsAtMessages source old.messages new.messages i.messages stop × HasNotFailed disk old.disk new.disk
-StopsAt source disk old new i s Step.serve = StopsServing source disk old new i s
-StopsAt source disk old new i s Step.received = (stop : FileStop) × (s ≡ status_of_file stop) × StopsAtMessages source old.received new.received i.messages stop × HasNotFailed disk old.disk new.disk × IsUnwritten disk old.disk new.disk
-StopsAt source disk old new i s Step.sent = (stop : FileStop) × (s ≡ status_of_file stop) × StopsAtSent source old.sent new.sent i.messages stop × HasNotFailed disk old.disk new.disk × IsUnwritten disk old.disk new.disk
-StopsAt source disk old new i s Step.change = StopsChanging disk old.disk new.disk i.chart i.history (row_fault i.chart (lent_in i) i.change) (what_of i) s
-StopsAt source disk old new i s Step.second = (s ≡ status.NoSecond) × (old.disk2 ≡ None)
-StopsAt source disk old new i s Step.old_journal = (stop : OpenFault) × (s ≡ status_of_opening stop) × StopsOpeningOld disk old.disk new.disk stop
-StopsAt source disk old new i s Step.copy =
-    (stop : MakeFault) × (s ≡ status_of_copying (length i.history) stop) × OnSecond (λ from to. StopsCopying disk from to i.chart i.history stop) old.disk2 new.disk2
-    × HasNotFailed disk old.disk new.disk × IsUnwritten disk old.disk new.disk
-StopsAt source disk old new i s Step.make_return =
-    (stop : ReturnFault) × (s ≡ status_of_return stop) × TellsReturnFault i.chart i.history i.place i.day stop × HasNotFailed disk old.disk new.disk
-StopsAt source disk old new i s Step.book_return = (stop : BookStop) × (s ≡ status_of_booking stop) × StopsReturning disk old.disk new.disk i stop
-StopsAt source disk old new i s Step.begin = (stop : OpenFault) × (s ≡ status_of_opening stop) × StopsBeginning disk old.disk new.disk stop
-StopsAt source disk old new i s Step.packets =
-    (stop : FileStop) × (s ≡ status_of_file stop) × StopsAtPackets source old.received new.received i.messages stop × HasNotFailed disk old.disk new.disk × IsUnwritten disk old.disk new.disk
-StopsAt source disk old new i s Step.take = StopsAtTake disk old.disk new.disk i.held i.packets s
-StopsAt source disk old new i s Step.aside = ⊥
+StopsAt source disk old new i s step = (step_meaning step).stops source disk old new i s
 
--- what a step reads or does is as it was
+-- what the step reads or does is as it was
 abbrev pub StepIsUntouched : {S K D : Type 0} → disks.Ghosts D → Room S K D → Room S K D → Step → Type 0
-StepIsUntouched disk old new (Step.table name) = table_at name new.tables ≡ table_at name old.tables
-StepIsUntouched disk old new Step.sums = Unit {0}
-StepIsUntouched disk old new Step.make = new.disk ≡ old.disk
-StepIsUntouched disk old new Step.open_journal = new.disk ≡ old.disk
-StepIsUntouched disk old new Step.day = Unit {0}
-StepIsUntouched disk old new Step.messages = new.messages ≡ old.messages
-StepIsUntouched disk old new Step.serve = (new.messages ≡ old.messages) × IsUnwritten disk old.disk new.disk
-StepIsUntouched disk old new Step.received = new.received ≡ old.received
-StepIsUntouched disk old new Step.sent = new.sent ≡ old.sent
-StepIsUntouched disk old new Step.change = IsUnwritten disk old.disk new.disk
-StepIsUntouched disk old new Step.second = Unit {0}
-StepIsUntouched disk old new Step.old_journal = new.disk ≡ old.disk
-StepIsUntouched disk old new Step.copy = new.disk2 ≡ old.disk2
-StepIsUntouched disk old new Step.make_return = Unit {0}
-StepIsUntouched disk old new Step.book_return = IsUnwritten disk old.disk new.disk
-StepIsUntouched disk old new Step.begin = new.disk ≡ old.disk
-StepIsUntouched disk old new Step.packets = new.received ≡ old.received
-StepIsUntouched disk old new Step.take = IsUnwritten disk old.disk new.disk
-StepIsUntouched disk old new Step.aside = new.disk ≡ old.disk
+StepIsUntouched disk old new step = (step_meaning step).untouched disk old new
+
+-- nothing is wrong with what it reads, and neither its source nor its disk failed
+abbrev pub IsReady : {S K D : Type 0} → sources.Ghosts S → disks.Ghosts D → Room S K D → Room S K D → Inputs → Step → Type 0
+IsReady source disk old new i step = (step_meaning step).ready source disk old new i

@@ -6,6 +6,7 @@ use Rattle.day_model.specs.Chart.{Chart}
 use Rattle.day_model.specs.declared.entry.Entry.{Entry}
 use Rattle.day_model.specs.declared.entry.Outcome.TheVariants.{Booked}
 use Rattle.day_model.specs.declared.pay.Pay.{Pay}
+use Rattle.jrn_book.specs.Answers.{FindsNoRoom}
 use Rattle.pay_returns.specs.Laws.{HoldsReturn}
 use Rattle.pay_returns.specs.Making.{MayReturn, TellsReturnFault}
 use Rattle.pay_returns.specs.declared.fault.ReturnFault.{ReturnFault}
@@ -13,10 +14,13 @@ use Rattle.ref_tables.specs.Seen.{Tables}
 use Rattle.corr_top.specs.declared.answers.BookStop.{BookStop}
 use Rattle.corr_top.specs.declared.status.Status.{Status}
 use Rattle.corr_top.specs.declared.status.Status.TheVariants as status
-use Rattle.corr_top.specs.Booking.{FindsNoRoom, IsBack, StopsEntering}
+use Rattle.corr_top.specs.Booking.{IsBack, StopsEntering}
 use Rattle.corr_top.specs.Inputs.{Inputs, new_in}
+use Rattle.corr_top.specs.OnDisk.{HasNotFailed, IsUnwritten}
 use Rattle.corr_top.specs.Origin.{AreSentValid}
-use Rattle.corr_top.specs.Stops.{status_of_day, status_of_return}
+use Rattle.corr_top.specs.Ready.{HasRoomForAll, IsSure}
+use Rattle.corr_top.specs.StepMeaning.{StepMeaning}
+use Rattle.corr_top.specs.Stops.{status_of_booking, status_of_day, status_of_return}
 
 -- the entry of a pay that was booked on a day
 abbrev pub booked_on : Day → Pay → Entry
@@ -50,3 +54,23 @@ ReturnSends i = (t : Tables) (pay : Pay) → i.entered ≡ pay ∷ [] → HoldsR
 -- how its entering stops, by one worker
 abbrev pub StopsReturning : {D : Type 0} → disks.Ghosts D → D → D → Inputs → BookStop → Type 0
 StopsReturning d old new i stop = (pay : Pay) × IsReturnable i pay × StopsEntering d old new i.chart i.history (pay ∷ []) i.day 1 1 stop
+
+-- ---- the steps
+
+-- the pay is made
+abbrev pub make_return_step : StepMeaning
+make_return_step = record {
+  passes = λ source disk old new i. (pay : Pay) × IsReturnable i pay;
+  stops = λ source disk old new i s. (stop : ReturnFault) × (s ≡ status_of_return stop) × TellsReturnFault i.chart i.history i.place i.day stop × HasNotFailed disk old.disk new.disk;
+  untouched = λ disk old new. Unit {0};
+  ready = λ source disk old new i. (pay : Pay) × IsReturnable i pay;
+}
+
+-- it is entered
+abbrev pub book_return_step : StepMeaning
+book_return_step = record {
+  passes = λ source disk old new i. IsReturned i;
+  stops = λ source disk old new i s. (stop : BookStop) × (s ≡ status_of_booking stop) × StopsReturning disk old.disk new.disk i stop;
+  untouched = λ disk old new. IsUnwritten disk old.disk new.disk;
+  ready = λ source disk old new i. IsSure disk old.disk new.disk × ((pay : Pay) → IsReturnable i pay → HasRoomForAll i.chart i.history (pay ∷ []));
+}

@@ -2,7 +2,8 @@
 use Rattle.std.specs.Prelude.{◌≡◌, ℕ, ◌+◌, ◌==◌, Bool, true, List, [], Some, slice_get, if◌then◌else◌}
 use Rattle.corr_ids.specs.declared.day.Day.{Day}
 use Rattle.corr_report.specs.Lines.{numbered}
-use Rattle.day_model.specs.Chart.{Chart, accounts_of, customer, vostro}
+use Rattle.day_model.specs.Chart.{Chart, accounts_of}
+use Rattle.corr_ids.specs.Kinds.{customer, vostro}
 use Rattle.day_model.specs.declared.account.Account.{Account}
 use Rattle.day_model.specs.declared.entry.Entry.{Entry}
 use Rattle.mt940_out.specs.Pages.{customer_pages_of}

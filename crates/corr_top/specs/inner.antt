@@ -24,6 +24,7 @@ pub mod Replies
 pub mod Returning
 pub mod Serving
 pub mod Ship
+pub mod Sides
 pub mod Statements
 pub mod Stops
 pub mod Stream

@@ -2,8 +2,8 @@
 
 ghost use Rattle.std.specs.Prelude.{◌≡◌, List, IfErr, IfOk, IsFalse, IsTrue, Some, if◌then◌else◌, is_none};
 ghost use Rattle.corr_text.specs.Faults.{Rose};
-ghost use Rattle.corr_top.specs.inner.Collecting.{IsCalm, StopsAsServed};
-ghost use Rattle.corr_top.specs.inner.Serving.{SaysFailed, are_replies};
+ghost use Rattle.corr_top.specs.inner.Collecting.{IsCalm, StopsAsServed, disk_fault_of};
+ghost use Rattle.corr_top.specs.inner.Serving.{are_replies};
 ghost use Rattle.day_model.specs.declared.reply.Reply.{Reply as TheReply};
 
 use crate::desk::{Halt, Served};
@@ -12,7 +12,7 @@ use crate::status::Status;
 /// Why the pays of a file were not all entered.
 #[derive(Clone, Copy)]
 pub enum BookStop {
-    /// The disk failed: its count of faults at the opening and at the close.
+    /// The disk failed: its count of faults when the books were opened, and when a pay was not entered for it.
     DiskFault { before: u64, after: u64 },
     /// A pay found no room: how many entries there were, the place of the closed gate, and the bytes that the pay needed.
     Full { entries: u32, end: u64, need: u64 },
@@ -42,25 +42,31 @@ fn has_risen(before: u64, after: u64) -> bool
     after == before.saturating_add(1)
 }
 
-/// Whether a message says that the disk failed over its pay.
-fn says_failed(served: &[Served]) -> bool
-    ensures { IsTrue result → SaysFailed served.now }
+/// The fault that a message tells, where it says that the disk failed over its pay.
+fn disk_fault(one: &Served) -> Option<BookStop>
+    ensures { result ≡ disk_fault_of one.now }
 {
-    served
-        .iter()
-        .any(|one| matches!(one, Served::Stopped(Halt::Disk)))
+    match *one {
+        Served::Stopped(Halt::Disk { before, after }) => {
+            Some(BookStop::DiskFault { before, after })
+        }
+        Served::Stopped(Halt::Broken) | Served::Stopped(Halt::Memory) => None,
+        Served::Reply(_) | Served::Full { .. } => None,
+    }
 }
 
-/// Why pays were not entered, where the count has risen.
-fn failed_stop(before: u64, after: u64, served: &[Served]) -> BookStop
-    requires { Rose before after }
-    ensures { StopsAsServed before after served.now result }
+/// Why pays were not entered, where the count has risen from `count` to `now`: the disk failed over the pay of a message, as the
+/// first that says so tells, or memory ran out.
+fn failed_stop(count: u64, now: u64, served: &[Served]) -> BookStop
+    requires { Rose count now }
+    ensures { StopsAsServed count now served.now result }
 {
-    if says_failed(served) {
-        BookStop::DiskFault { before, after }
-    } else {
-        BookStop::Memory
+    for one in served {
+        if let Some(stop) = disk_fault(one) {
+            return stop;
+        }
     }
+    BookStop::Memory
 }
 
 /// The first of two.
@@ -73,8 +79,8 @@ fn first_full(first: Option<BookStop>, later: BookStop) -> Option<BookStop>
     }
 }
 
-/// Tests that each message has a reply; or tells why one has none: the disk failed, whose count of faults was `before` at the
-/// opening and is `after`, memory ran out, or its pay, the first such, found no room.
+/// Tests that each message has a reply; or tells why one has none: the disk failed, as the first message tells that says so, memory ran
+/// out, or its pay, the first such, found no room. The disk's count of faults was `before` at the opening and is `after`.
 ///
 /// A count that rose without a message that says so is told as out of memory, which tells nothing.
 pub fn check_replies(before: u64, after: u64, served: &[Served]) -> Result<(), BookStop>

@@ -1,14 +1,15 @@
 //! Batches of messages: what a worker answers together, and what it makes of them.
 
-ghost use Rattle.std.specs.Prelude.{◌≡◌, ◌+◌, ◌-◌, ◌<◌, ◌≤◌, ◌++◌, [], ◌∷◌, All, IfErr, IfOk, OnOk, drop, get_or, length, map, take, vec_capacity};
+ghost use Rattle.std.specs.Prelude.{◌≡◌, ◌+◌, ◌-◌, ◌<◌, ◌≤◌, ◌++◌, ◌*◌, ℕ, [], ◌∷◌, All, IfErr, IfOk, OnOk, drop, get_or, length, map, take, true, vec_capacity};
 ghost use Rattle.fin_frame.specs.File.{most_bytes};
 ghost use Rattle.fin_frame.specs.Pieces.{IsPlaceIn, at_places};
 ghost use Rattle.jrn_book.specs.Batches.{most_batch};
-ghost use Rattle.corr_top.specs.inner.Batching.{AreInText, IsBatch, IsShort, all_made, ask_of, halt_after, halted_by, made_by, made_in, messages_in, stopped_so, why_of};
+ghost use Rattle.corr_top.specs.inner.Batching.{AreInText, IsBatch, IsShort, StandsBetween, all_made, ask_of, behind, halt_after, halted_by, made_by, made_in, messages_in, stopped_so, why_of};
 ghost use Rattle.corr_top.specs.Message.{pays_in};
 
 use crate::desk::{Halt, Served, as_served, halt_of};
 use crate::message::{NoPay, reply_for};
+use crate::words::MOST_BATCH;
 use corr_books::BooksName;
 use corr_ids::Mir;
 use corr_text::{Memory, Text};
@@ -18,17 +19,21 @@ use jrn_book::{CommitFault, Committed};
 use std::alloc::Global;
 use std::marker::{Model, PhantomData};
 
-/// Messages that a worker answers together, in a text of their own: one at least, and no more than entries come under one sync by the
-/// name of the books.
+/// The most messages of a batch.
+const MOST_MESSAGES: u32 = MOST_BATCH as u32;
+
+/// Messages that a worker answers, in a text of their own: one at least, and all under one sync, or one after another.
 #[derive(Drop)]
 pub struct Batch<N: BooksName> {
     text: Text,
     places: Vec<Place>,
+    /// Whether their entries come under one sync: they are no more than may come so by the name of the books.
+    together: bool,
     of: PhantomData<N>,
 }
 
 impl<N: BooksName> Model for Batch<N> {
-    ghost use Rattle.std.specs.Prelude.{List, ℕ};
+    ghost use Rattle.std.specs.Prelude.{◌≡◌, ◌≤◌, List, length, true, ℕ};
     ghost use Rattle.fin_frame.specs.Pieces.{at_places};
     ghost use Rattle.corr_top.specs.inner.Batching.{AreInText, IsBatch};
 
@@ -36,18 +41,21 @@ impl<N: BooksName> Model for Batch<N> {
 
     ghost view = { λ batch. at_places batch.text batch.places.items };
 
-    ghost invariant = { λ batch. AreInText batch.text batch.places.items × IsBatch N.opening.most (at_places batch.text batch.places.items) };
+    ghost invariant = { λ batch. AreInText batch.text batch.places.items × IsBatch (at_places batch.text batch.places.items)
+        × (batch.together ≡ true → length batch.places.items ≤ N.opening.most) };
 }
 
 impl<N: BooksName> Batch<N> {
-    fn new(text: Text, places: Vec<Place>) -> Batch<N>
+    fn new(text: Text, places: Vec<Place>, together: bool) -> Batch<N>
         requires within { AreInText text places.items }
-        requires batch { IsBatch N.opening.most (at_places text places.items) }
+        requires batch { IsBatch (at_places text places.items) }
+        requires together { together ≡ true → length places.items ≤ N.opening.most }
         ensures { result ≡ at_places text places.items }
     {
         Batch {
             text,
             places,
+            together,
             of: PhantomData,
         }
     }
@@ -55,9 +63,16 @@ impl<N: BooksName> Batch<N> {
     /// How many messages it has.
     pub fn len(&self) -> usize
         ensures count { result ≡ length self.now }
-        ensures batch { IsBatch N.opening.most self.now }
+        ensures batch { IsBatch self.now }
     {
         self.places.len()
+    }
+
+    /// Whether the entries of its messages come under one sync.
+    pub fn is_together(&self) -> bool
+        ensures { result ≡ true → length self.now ≤ N.opening.most }
+    {
+        self.together
     }
 
     /// One of its messages, by its place among them, from 0.
@@ -73,11 +88,13 @@ impl<N: BooksName> Batch<N> {
 /// Puts a message behind others in a text.
 fn put_message(text: &mut Text, places: &mut Vec<Place>, message: &[u8]) -> Result<(), Memory>
     requires within { AreInText text.old places.old.items }
+    requires small { length text.old ≤ most_bytes * length places.old.items }
     requires few { length places.old.items < most_batch }
     requires short { length message.now ≤ most_bytes }
     requires room { length places.old.items < vec_capacity places.old }
     ensures put { OnOk result (at_places text.new places.new.items ≡ at_places text.old places.old.items ++ message.now ∷ []) }
     ensures within { OnOk result (AreInText text.new places.new.items) }
+    ensures small { OnOk result (length text.new ≤ most_bytes * length places.new.items) }
     ensures count { OnOk result (length places.new.items ≡ length places.old.items + 1) }
     ensures capacity { vec_capacity places.new ≡ vec_capacity places.old }
 {
@@ -90,33 +107,62 @@ fn put_message(text: &mut Text, places: &mut Vec<Place>, message: &[u8]) -> Resu
     Ok(())
 }
 
-/// About how many bytes the messages at these places have. No clause speaks of it.
-fn bytes_in(places: &[Place]) -> usize {
-    let mut bytes = 0usize;
-    for place in places {
-        bytes = bytes.saturating_add(place.len as usize);
+/// Where messages stand in a file: at the first byte of any of them, and up to behind the last of any. There are some.
+fn stretch_of(at: &[Place]) -> (u32, usize)
+    requires some { 1 ≤ length at.now }
+    ensures each { All (StandsBetween result.0 result.1) at.now }
+    ensures within { (size : ℕ) → All (IsPlaceIn size) at.now → result.1 ≤ size }
+    ensures order { result.0 ≤ result.1 }
+{
+    let mut begin = at[0].from;
+    let mut past = begin as usize;
+    for place in at {
+        begin = begin.min(place.from);
+        past = past.max(place.from as usize + place.len as usize);
     }
-    bytes
+    (begin, past)
 }
 
-/// The messages at these places of a file's bytes, as a batch.
-pub fn batch_at<N: BooksName>(alloc: Global, file: &[u8], at: &[Place]) -> Result<Batch<N>, Memory>
+/// Puts places of a file, as those of a text that begins there.
+fn put_places(at: &[Place], begin: u32, places: &mut Vec<Place>)
+    requires none { places.old.items ≡ [] }
+    requires room { length at.now ≤ vec_capacity places.old }
+    requires behind { All (λ place. begin ≤ place.from) at.now }
+    ensures { map (behind begin) places.new.items ≡ at.now }
+{
+    for place in at {
+        places.push_reserved(Place {
+            from: place.from - begin,
+            len: place.len,
+        });
+    }
+}
+
+/// The messages at these places of a file's bytes, as a batch, whose entries come under one sync, or not. The bytes between them are
+/// copied too, so that one copy does.
+pub fn batch_at<N: BooksName>(
+    alloc: Global,
+    file: &[u8],
+    at: &[Place],
+    together: bool,
+) -> Result<Batch<N>, Memory>
     requires within { All (IsPlaceIn (length file.now)) at.now }
     requires short { All IsShort (at_places file.now at.now) }
-    requires batch { IsBatch N.opening.most (at_places file.now at.now) }
+    requires batch { IsBatch (at_places file.now at.now) }
+    requires together { together ≡ true → length at.now ≤ N.opening.most }
     ensures { IfOk result (λ batch. batch ≡ at_places file.now at.now) }
 {
-    let mut text = Text::with_room(alloc, &[], bytes_in(at))?;
+    let (begin, past) = stretch_of(at);
+    let text = Text::from_bytes(alloc, &file[begin as usize..past])?;
     let mut places = Vec::with_capacity(alloc, at.len())?;
-    for place in at {
-        put_message(&mut text, &mut places, place.of(file))?;
-    }
-    Ok(Batch::new(text, places))
+    put_places(at, begin, &mut places);
+    Ok(Batch::new(text, places, together))
 }
 
-/// These messages, as a batch.
+/// These messages, as a batch, whose entries come under one sync.
 fn batch_of<N: BooksName>(alloc: Global, messages: &[Framed<'_>]) -> Result<Batch<N>, Memory>
-    requires batch { IsBatch N.opening.most messages.now }
+    requires batch { IsBatch messages.now }
+    requires named { length messages.now ≤ N.opening.most }
     ensures { IfOk result (λ batch. batch ≡ messages.now) }
 {
     let mut text = Text::from_bytes(alloc, &[])?;
@@ -124,7 +170,7 @@ fn batch_of<N: BooksName>(alloc: Global, messages: &[Framed<'_>]) -> Result<Batc
     for message in messages {
         put_message(&mut text, &mut places, message.bytes())?;
     }
-    Ok(Batch::new(text, places))
+    Ok(Batch::new(text, places, true))
 }
 
 /// What became of the messages of a batch.
@@ -174,18 +220,29 @@ pub fn make_lists(alloc: Global, count: usize) -> Result<Lists, Memory>
     })
 }
 
-/// The most messages of a batch: of one worker as many as may be (`alone`). Several workers share the messages of a file, so that each
-/// has two batches and more; few messages are dealt one by one. No clause speaks of how they share them.
-pub fn share_of(count: usize, workers: u32, entries: u32) -> usize
-    requires workers { 1 ≤ workers }
-    requires entries { 1 ≤ entries }
+/// The most messages that a batch may have: as many as entries come under one sync, or, where its messages are answered one after another,
+/// as many as entries ever may.
+pub fn limit_of(together: bool, entries: u32) -> u32
+    requires entries { (1 ≤ entries) × (entries ≤ most_batch) }
     ensures some { 1 ≤ result }
-    ensures few { result ≤ entries }
-    ensures alone { workers ≡ 1 → result ≡ entries }
+    ensures few { result ≤ most_batch }
+    ensures together { together ≡ true → result ≡ entries }
 {
-    let entries = entries as usize;
+    if together { entries } else { MOST_MESSAGES }
+}
+
+/// The most messages of a batch, of those that it may have: of one worker all (`alone`). Several workers share the messages of a file, so
+/// that each has two batches and more; few messages are dealt one by one. No clause speaks of how they share them.
+pub fn share_of(count: usize, workers: u32, most: u32) -> usize
+    requires workers { 1 ≤ workers }
+    requires most { 1 ≤ most }
+    ensures some { 1 ≤ result }
+    ensures few { result ≤ most }
+    ensures alone { workers ≡ 1 → result ≡ most }
+{
+    let most = most as usize;
     if workers == 1 {
-        return entries;
+        return most;
     }
     let workers = workers as usize;
     if count < 16 * workers {
@@ -194,10 +251,10 @@ pub fn share_of(count: usize, workers: u32, entries: u32) -> usize
     let share = count / (2 * workers);
     if share < 1 {
         1
-    } else if share < entries {
+    } else if share < most {
         share
     } else {
-        entries
+        most
     }
 }
 

@@ -1,6 +1,6 @@
 //! The desk of a run: what a worker does with messages.
 
-ghost use Rattle.std.specs.Prelude.{◌≡◌, ◌≤◌, [], ◌∷◌, All, IfSome, None, Ok, length, map, vec_capacity, vec_len};
+ghost use Rattle.std.specs.Prelude.{◌≡◌, ◌≤◌, [], ◌∷◌, All, IfSome, None, Ok, length, map, take, vec_capacity, vec_len};
 ghost use mathlib.Core.List.{IsPrefix};
 ghost use Rattle.fin_frame.specs.File.{most_bytes};
 ghost use Rattle.corr_books.specs.Passes.{Belongs};
@@ -11,7 +11,7 @@ ghost use Rattle.fin_message.specs.declared.direction.Direction.TheVariants.{Rec
 ghost use Rattle.corr_top.specs.inner.Asking.{IsAsking, IsWritten, pay_asked};
 ghost use Rattle.corr_top.specs.inner.Batching.{IsSoundReading, ServesInTurn, made_in};
 ghost use Rattle.corr_top.specs.Message.{pay_asked_of, pay_in, readings_of};
-ghost use Rattle.corr_top.specs.inner.Serving.{AnswersMessage, halt_of, served_of, starting};
+ghost use Rattle.corr_top.specs.inner.Serving.{AnswersMessage, Serves, halt_of, served_of, starting};
 
 use crate::batching::{Batch, Lists, Made, make_lists, part, put_left, put_made};
 use crate::directory::Directory;
@@ -33,8 +33,8 @@ use work_pool::{Desk, Gate};
 /// Why a worker serves no more.
 #[derive(Clone, Copy)]
 pub enum Halt {
-    /// The disk failed over a pay of the worker's.
-    Disk,
+    /// The disk failed over a pay of the worker's: its count of faults when the books were opened, and then.
+    Disk { before: u64, after: u64 },
     /// The disk had failed over an earlier pay.
     Broken,
     /// There was no memory.
@@ -100,7 +100,9 @@ pub fn as_served(mir: Mir, answer: Result<Committed, CommitFault>) -> Served
         Ok(Committed::Kept { place, .. }) => Served::Reply(Reply::Entered { mir, place }),
         Err(CommitFault::Conflict { place }) => Served::Reply(Reply::Conflict { mir, place }),
         Err(CommitFault::Full { entries, end, need }) => Served::Full { entries, end, need },
-        Err(CommitFault::DiskFault { .. }) => Served::Stopped(Halt::Disk),
+        Err(CommitFault::DiskFault { before, after }) => {
+            Served::Stopped(Halt::Disk { before, after })
+        }
         Err(CommitFault::Broken { .. }) => Served::Stopped(Halt::Broken),
         Err(CommitFault::Memory) => Served::Stopped(Halt::Memory),
     }
@@ -146,18 +148,18 @@ impl<'a, N: BooksName, D: Disk> RunDesk<'a, N, D> {
         &self,
         rt: &R,
         pass: &mut Pass,
-        message: &Message,
+        message: &mut Message,
         worker: u32,
         gate: &G,
     ) -> Served
         requires pass { Belongs N.opening pass.old }
-        requires received { Goes Received message.now × TextSays self.now.directory.now.tables message.now × HasEnvelope message.now }
-        requires short { length (lines_in message.now) ≤ most_text }
+        requires received { Goes Received message.old × TextSays self.now.directory.now.tables message.old × HasEnvelope message.old }
+        requires short { length (lines_in message.old) ≤ most_text }
         ensures pass { Belongs N.opening pass.new }
-        ensures answered { AnswersMessage N.opening (pay_in self.now.directory.now N.opening.accounts message.now) pass.old pass.new result }
+        ensures answered { AnswersMessage N.opening (pay_in self.now.directory.now N.opening.accounts message.old) pass.old pass.new result }
     {
-        match route_message(self.directory, self.books.accounts(), message) {
-            Ok(asking) => self.enter(rt, pass, &asking, worker, gate),
+        match route_message(self.alloc, self.directory, self.books.accounts(), message) {
+            Ok(asking) => self.enter(rt, pass, asking, worker, gate),
             Err(why) => Served::Reply(reply_for(why)),
         }
     }
@@ -169,15 +171,15 @@ impl<'a, N: BooksName, D: Disk> RunDesk<'a, N, D> {
         &self,
         rt: &R,
         pass: &mut Pass,
-        asking: &Asking<'_>,
+        asking: Asking<'_>,
         worker: u32,
         gate: &G,
     ) -> Served
         requires pass { Belongs N.opening pass.old }
-        requires asks { IsAsking N.opening.accounts asking.now }
-        requires written { IsWritten asking.now }
+        requires asks { IsAsking N.opening.accounts asking }
+        requires written { IsWritten asking }
         ensures pass { Belongs N.opening pass.new }
-        ensures answered { AnswersMessage N.opening (Ok (pay_asked N.opening.accounts asking.now)) pass.old pass.new result }
+        ensures answered { AnswersMessage N.opening (Ok (pay_asked N.opening.accounts asking.entry)) pass.old pass.new result }
     {
         match self.make_pay(asking) {
             Some(pay) => as_served(pay.mir, self.books.book(rt, pass, worker, &pay, gate)),
@@ -186,10 +188,10 @@ impl<'a, N: BooksName, D: Disk> RunDesk<'a, N, D> {
     }
 
     /// The pay that a message asks for. None where memory ran out.
-    fn make_pay(&self, asking: &Asking<'_>) -> Option<Pay>
-        requires asks { IsAsking N.opening.accounts asking.now }
-        requires written { IsWritten asking.now }
-        ensures value { IfSome result (λ pay. pay ≡ pay_asked N.opening.accounts asking.now) }
+    fn make_pay(&self, asking: Asking<'_>) -> Option<Pay>
+        requires asks { IsAsking N.opening.accounts asking }
+        requires written { IsWritten asking }
+        ensures value { IfSome result (λ pay. pay ≡ pay_asked N.opening.accounts asking.entry) }
         ensures fits { IfSome result (FitsAccounts N.opening.accounts) }
         ensures shape { IfSome result HasShape }
     {
@@ -214,14 +216,14 @@ impl<'a, N: BooksName, D: Disk> RunDesk<'a, N, D> {
     }
 
     /// The pay that a valid message asks for, or why it gives none. None where memory ran out.
-    fn read_valid(&self, message: &Message) -> Option<Result<Pay, NoPay>>
-        requires received { Goes Received message.now × TextSays self.now.directory.now.tables message.now × HasEnvelope message.now }
-        requires short { length (lines_in message.now) ≤ most_text }
-        ensures value { IfSome result (λ reading. reading ≡ pay_in self.now.directory.now N.opening.accounts message.now) }
+    fn read_valid(&self, message: &mut Message) -> Option<Result<Pay, NoPay>>
+        requires received { Goes Received message.old × TextSays self.now.directory.now.tables message.old × HasEnvelope message.old }
+        requires short { length (lines_in message.old) ≤ most_text }
+        ensures value { IfSome result (λ reading. reading ≡ pay_in self.now.directory.now N.opening.accounts message.old) }
         ensures sound { IfSome result (IsSoundReading N.opening.accounts) }
     {
-        match route_message(self.directory, self.books.accounts(), message) {
-            Ok(asking) => Some(Ok(self.make_pay(&asking)?)),
+        match route_message(self.alloc, self.directory, self.books.accounts(), message) {
+            Ok(asking) => Some(Ok(self.make_pay(asking)?)),
             Err(why) => Some(Err(why)),
         }
     }
@@ -247,6 +249,63 @@ impl<'a, N: BooksName, D: Disk> RunDesk<'a, N, D> {
         }
     }
 
+    /// Answers messages of a batch one after another, by a worker that goes on, up to the first that stops it: each entry is on the disk
+    /// before the next message is answered.
+    fn answer_front<R: Wait, G: Gate>(
+        &self,
+        rt: &R,
+        pass: &mut Worker,
+        worker: u32,
+        batch: &Batch<N>,
+        gate: &G,
+        made: &mut Vec<Served>,
+    )
+        requires pass { Belongs N.opening pass.old.pass }
+        requires on { pass.old.halted ≡ None }
+        requires none { made.old.items ≡ [] }
+        requires room { length batch.now ≤ vec_capacity made.old }
+        ensures pass { Belongs N.opening pass.new.pass }
+        ensures few { length made.new.items ≤ length batch.now }
+        ensures served { ServesInTurn N.opening (readings_of self.now.directory.now N.opening.accounts (take (length made.new.items) batch.now))
+            pass.old pass.new made.new.items }
+        ensures capacity { vec_capacity made.new ≡ vec_capacity made.old }
+    {
+        for at in 0..batch.len() {
+            let one = self.answer_next(rt, pass, worker, batch.message(at), gate);
+            made.push_reserved(one);
+            if pass.halted.is_some() {
+                return;
+            }
+        }
+    }
+
+    /// Answers the messages of a batch one after another, by a worker that goes on.
+    fn answer_each<R: Wait, G: Gate>(
+        &self,
+        rt: &R,
+        pass: &mut Worker,
+        worker: u32,
+        batch: &Batch<N>,
+        gate: &G,
+    ) -> Made
+        requires pass { Belongs N.opening pass.old.pass }
+        requires on { pass.old.halted ≡ None }
+        ensures pass { Belongs N.opening pass.new.pass }
+        ensures served { ServesInTurn N.opening (readings_of self.now.directory.now N.opening.accounts batch.now) pass.old pass.new (made_in result) }
+    {
+        let count = batch.len();
+        let Ok(mut made) = Vec::with_capacity(self.alloc, count) else {
+            pass.halted = Some(Halt::Memory);
+            return Made::None {
+                messages: count,
+                why: Halt::Memory,
+            };
+        };
+        self.answer_front(rt, pass, worker, batch, gate, &mut made);
+        pass.halted = put_left(&mut made, count, pass.halted);
+        Made::Each(made)
+    }
+
     /// Answers the messages of a batch together, by a worker that goes on. Their new entries come under one sync.
     fn answer_all<R: Wait, G: Gate>(
         &self,
@@ -258,6 +317,7 @@ impl<'a, N: BooksName, D: Disk> RunDesk<'a, N, D> {
     ) -> Made
         requires pass { Belongs N.opening pass.old.pass }
         requires on { pass.old.halted ≡ None }
+        requires named { length batch.now ≤ N.opening.most }
         ensures pass { Belongs N.opening pass.new.pass }
         ensures served { ServesInTurn N.opening (readings_of self.now.directory.now N.opening.accounts batch.now) pass.old pass.new (made_in result) }
     {
@@ -292,6 +352,29 @@ impl<'a, N: BooksName, D: Disk> RunDesk<'a, N, D> {
         Made::Each(made)
     }
 
+    /// Answers one message, by a worker that goes on.
+    fn answer_next<R: Wait, G: Gate>(
+        &self,
+        rt: &R,
+        pass: &mut Worker,
+        worker: u32,
+        message: &[u8],
+        gate: &G,
+    ) -> Served
+        requires pass { Belongs N.opening pass.old.pass }
+        requires on { pass.old.halted ≡ None }
+        requires short { length message.now ≤ most_bytes }
+        ensures pass { Belongs N.opening pass.new.pass }
+        ensures served { Serves N.opening (pay_asked_of self.now.directory.now N.opening.accounts message.now) pass.old pass.new result }
+        ensures halted { pass.new.halted ≡ halt_of result }
+    {
+        let room = &mut pass.room;
+        let found = &mut pass.found;
+        let one = self.answer(rt, &mut pass.pass, room, found, worker, message, gate);
+        pass.halted = halt_of(&one);
+        one
+    }
+
     /// Answers the one message of a batch, by a worker that goes on. It needs no lists.
     fn answer_one<R: Wait, G: Gate>(
         &self,
@@ -307,11 +390,7 @@ impl<'a, N: BooksName, D: Disk> RunDesk<'a, N, D> {
         ensures pass { Belongs N.opening pass.new.pass }
         ensures served { ServesInTurn N.opening (pay_asked_of self.now.directory.now N.opening.accounts message.now ∷ []) pass.old pass.new (made_in result) }
     {
-        let room = &mut pass.room;
-        let found = &mut pass.found;
-        let one = self.answer(rt, &mut pass.pass, room, found, worker, message, gate);
-        pass.halted = halt_of(&one);
-        Made::One(one)
+        Made::One(self.answer_next(rt, pass, worker, message, gate))
     }
 }
 
@@ -349,8 +428,10 @@ impl<'a, N: BooksName + Send + Sync, D: Disk + Drop + Send> Desk for RunDesk<'a,
         }
         if count == 1 {
             self.answer_one(rt, pass, worker, job.message(0), gate)
-        } else {
+        } else if job.is_together() {
             self.answer_all(rt, pass, worker, job, gate)
+        } else {
+            self.answer_each(rt, pass, worker, job, gate)
         }
     }
 }

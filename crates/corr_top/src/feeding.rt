@@ -3,7 +3,7 @@
 ghost use Rattle.std.specs.Prelude.{◌≡◌, ◌+◌, ◌≤◌, IfErr, IfOk, [], drop, length, take};
 ghost use Rattle.jrn_book.specs.Batches.{most_batch};
 
-use crate::batching::{Batch, batch_at, next_count, share_of};
+use crate::batching::{Batch, batch_at, limit_of, next_count, share_of};
 use crate::stream::MessageFile;
 use corr_books::BooksName;
 use corr_io::Source;
@@ -32,14 +32,17 @@ impl FileName for Brand {
     ghost faults = { 0 };
 }
 
-/// A feed of the messages of a file, in batches for so many workers, with so many entries under one sync at most. It ends where the
-/// file's end was met and all was given, where its source failed, where it is too large or can't be cut, and where memory ran out; the
-/// file keeps which.
+/// A feed of the messages of a file, in batches for so many workers, with so many entries under one sync at most; where that is one, the
+/// messages of a batch are answered one after another. It ends where the file's end was met and all was given, where its source failed,
+/// where it is too large or can't be cut, and where memory ran out; the file keeps which.
 #[derive(Drop)]
 pub struct MessageFeed<N: BooksName, F: FileName, S: Source> {
     alloc: Global,
     workers: u32,
-    entries: u32,
+    /// Whether the entries of a batch come under one sync.
+    together: bool,
+    /// The most messages that a batch may have.
+    most: u32,
     file: MessageFile<S>,
     /// How many messages each batch has that was given.
     sizes: Vec<usize>,
@@ -52,7 +55,7 @@ pub struct MessageFeed<N: BooksName, F: FileName, S: Source> {
 }
 
 impl<N: BooksName, F: FileName, S: Source> Model for MessageFeed<N, F, S> {
-    ghost use Rattle.std.specs.Prelude.{◌≡◌, ◌≤◌};
+    ghost use Rattle.std.specs.Prelude.{◌≡◌, ◌≤◌, true};
     ghost use Rattle.jrn_book.specs.Batches.{most_batch};
     ghost use Rattle.corr_top.specs.inner.Fed.{Fed, IsFed};
 
@@ -61,7 +64,7 @@ impl<N: BooksName, F: FileName, S: Source> Model for MessageFeed<N, F, S> {
     ghost view = { λ f. record { file = f.file; sizes = f.sizes.items; over = f.over } };
 
     ghost invariant = { λ f. IsFed S.Source F.left F.faults (record { file = f.file; sizes = f.sizes.items; over = f.over }) f.given
-        × (N.opening.most ≡ f.entries) × ((1 ≤ f.entries) × (f.entries ≤ most_batch)) × (1 ≤ f.workers) × ((1 ≤ f.share) × (f.share ≤ f.entries)) };
+        × (f.together ≡ true → f.most ≤ N.opening.most) × ((1 ≤ f.most) × (f.most ≤ most_batch)) × (1 ≤ f.workers) × ((1 ≤ f.share) × (f.share ≤ f.most)) };
 }
 
 /// So many places, behind those before them.
@@ -70,6 +73,14 @@ fn next_places(places: &[Place], at: usize, count: usize) -> &[Place]
     ensures { result.now ≡ take count (drop at places.now) }
 {
     &places[at..at + count]
+}
+
+/// How many messages are read ahead of the next one: of one worker so many that it may have two batches, of several so many that each may
+/// have two, of eight messages at least, so that they aren't dealt one by one. No clause speaks of it.
+fn messages_ahead(workers: u32, most: u32) -> usize {
+    let two = (most as usize).saturating_mul(2);
+    let each = if workers == 1 { two } else { two.max(16) };
+    (workers as usize).saturating_mul(each).saturating_sub(1)
 }
 
 impl<N: BooksName, F: FileName, S: Source> MessageFeed<N, F, S> {
@@ -97,10 +108,12 @@ impl<N: BooksName, F: FileName, S: Source> MessageFeed<N, F, S> {
             Ok(file) => file,
             Err(refused) => return Err(refused),
         };
+        let together = entries != 1;
         Ok(MessageFeed {
             alloc,
             workers,
-            entries,
+            together,
+            most: limit_of(together, entries),
             file,
             sizes: Vec::new(alloc),
             given: 0,
@@ -129,9 +142,19 @@ impl<N: BooksName, F: FileName, S: Source> MessageFeed<N, F, S> {
         if self.given < self.file.places.len() {
             return;
         }
-        self.file.read_past(self.alloc, self.given);
+        let past = self.given.saturating_add(self.ahead());
+        self.file.read_past(self.alloc, past);
         let count = self.file.places.len() - self.given;
-        self.share = share_of(count, self.workers, self.entries);
+        self.share = share_of(count, self.workers, self.most);
+    }
+
+    /// How many messages are read ahead: none where they are answered one after another.
+    fn ahead(&self) -> usize {
+        if self.together {
+            messages_ahead(self.workers, self.most)
+        } else {
+            0
+        }
     }
 
     /// The next of the messages that were found. There are some.
@@ -147,7 +170,7 @@ impl<N: BooksName, F: FileName, S: Source> MessageFeed<N, F, S> {
         let left = self.file.places.len() - self.given;
         let count = next_count(left, self.share);
         let at = next_places(self.file.places.as_slice(), self.given, count);
-        let batch = batch_at(self.alloc, self.file.text.bytes(), at)?;
+        let batch = batch_at(self.alloc, self.file.text.bytes(), at, self.together)?;
         self.sizes.push_reserved(count);
         self.given += count;
         Ok(batch)

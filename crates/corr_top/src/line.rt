@@ -1,8 +1,9 @@
 //! The line that tells how a command ended.
 
-ghost use Rattle.std.specs.Prelude.{◌≡◌, ◌≤◌, ◌++◌, [], OnOk, OnErr, IfOk, codes};
+ghost use Rattle.std.specs.Prelude.{◌≡◌, ◌≤◌, ◌++◌, [], OnOk, OnErr, IfOk};
 ghost use Rattle.corr_ids.specs.Day.{InCentury, yymmdd_of};
-ghost use Rattle.corr_money.specs.Amounts.{signed_text, most_decimals};
+ghost use Rattle.corr_money.specs.Amounts.{most_decimals};
+ghost use Rattle.corr_top.specs.declared.status.Status.TheVariants.{Full, Table, Unbalanced, Unfunded};
 ghost use Rattle.corr_top.specs.Status.{HasLine, status_line_of, name_text, spaced_number, spaced_signed, status_text, why_text};
 
 use crate::status::Status;
@@ -100,14 +101,47 @@ fn put_two(
     put_number(alloc, second, out)
 }
 
-/// A currency and a sum of its minor units.
+/// A table, one of its rows, and what is wrong with that.
+fn put_table(
+    alloc: Global,
+    table: TableName,
+    row: u32,
+    why: Why,
+    out: &mut Text,
+) -> Result<(), Memory>
+    ensures { OnOk result (out.new ≡ out.old ++ status_text (Table table row why)) }
+{
+    out.push(b"table ")?;
+    out.push(table_name(table))?;
+    put_number(alloc, row as u64, out)?;
+    put_why(alloc, why, out)
+}
+
+/// A currency and the sum of its openings.
 fn put_sum(alloc: Global, ccy: Ccy, decimals: u8, sum: i64, out: &mut Text) -> Result<(), Memory>
     requires { decimals ≤ most_decimals }
-    ensures { OnOk result (out.new ≡ out.old ++ ccy.0 ++ codes " " ++ signed_text decimals sum) }
+    ensures { OnOk result (out.new ≡ out.old ++ status_text (Unbalanced ccy decimals sum)) }
 {
+    out.push(b"unbalanced ")?;
     out.push(&ccy.0)?;
     out.push(b" ")?;
     put_signed(alloc, sum, decimals, out)
+}
+
+/// A journal without room.
+fn put_full(alloc: Global, entries: u32, end: u64, need: u64, out: &mut Text) -> Result<(), Memory>
+    ensures { OnOk result (out.new ≡ out.old ++ status_text (Full entries end need)) }
+{
+    put_two(alloc, b"full", entries as u64, end, out)?;
+    put_number(alloc, need, out)
+}
+
+/// An account that can't take a leg.
+fn put_unfunded(alloc: Global, leg: u8, balance: i64, out: &mut Text) -> Result<(), Memory>
+    ensures { OnOk result (out.new ≡ out.old ++ status_text (Unfunded leg balance)) }
+{
+    put_one(alloc, b"unfunded", leg as u64, out)?;
+    put_balance(alloc, balance, out)
 }
 
 fn put_status(alloc: Global, s: &Status, out: &mut Text) -> Result<(), Memory>
@@ -117,30 +151,18 @@ fn put_status(alloc: Global, s: &Status, out: &mut Text) -> Result<(), Memory>
     match s {
         Status::Done => out.push(b"done"),
         Status::Usage => out.push(b"usage"),
-        Status::Table { table, row, why } => {
-            out.push(b"table ")?;
-            out.push(table_name(*table))?;
-            put_number(alloc, *row as u64, out)?;
-            put_why(alloc, *why, out)
-        }
+        Status::Table { table, row, why } => put_table(alloc, *table, *row, *why, out),
         Status::ReadFault { before, after } => put_two(alloc, b"read fault", *before, *after, out),
-        Status::WriteFault { before, after } => put_two(
-            alloc,
-            b"write fault",
-            *before,
-            *after,
-            out,
-        ),
+        Status::WriteFault { before, after } => {
+            put_two(alloc, b"write fault", *before, *after, out)
+        }
         Status::DiskFault { before, after } => put_two(alloc, b"disk fault", *before, *after, out),
         Status::SecondDiskFault { before, after } => {
             put_two(alloc, b"second disk fault", *before, *after, out)
         }
         Status::NotAJournal => out.push(b"not a journal"),
         Status::Damaged { at } => put_one(alloc, b"damaged", *at, out),
-        Status::Unbalanced { ccy, decimals, sum } => {
-            out.push(b"unbalanced ")?;
-            put_sum(alloc, *ccy, *decimals, *sum, out)
-        }
+        Status::Unbalanced { ccy, decimals, sum } => put_sum(alloc, *ccy, *decimals, *sum, out),
         Status::Exists { first } => put_one(alloc, b"exists", *first as u64, out),
         Status::Memory => out.push(b"no memory"),
         Status::DateBack { last } => put_date(b"date back ", *last, out),
@@ -148,20 +170,14 @@ fn put_status(alloc: Global, s: &Status, out: &mut Text) -> Result<(), Memory>
             put_two(alloc, b"too large", *bytes, *messages as u64, out)
         }
         Status::Framing { at } => put_one(alloc, b"framing", *at, out),
-        Status::Full { entries, end, need } => {
-            put_two(alloc, b"full", *entries as u64, *end, out)?;
-            put_number(alloc, *need, out)
-        }
+        Status::Full { entries, end, need } => put_full(alloc, *entries, *end, *need, out),
         Status::Version { found } => put_one(alloc, b"version", *found as u64, out),
         Status::Unknown => out.push(b"unknown account"),
         Status::NoSecond => out.push(b"no second disk"),
         Status::NoPayment { entries } => put_one(alloc, b"no payment", *entries as u64, out),
         Status::Returned { place } => put_one(alloc, b"returned", *place as u64, out),
         Status::NotNext { number } => put_one(alloc, b"not next", *number as u64, out),
-        Status::Unfunded { leg, balance } => {
-            put_one(alloc, b"unfunded", *leg as u64, out)?;
-            put_balance(alloc, *balance, out)
-        }
+        Status::Unfunded { leg, balance } => put_unfunded(alloc, *leg, *balance, out),
     }
 }
 

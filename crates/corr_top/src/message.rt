@@ -21,6 +21,7 @@ use fin_layout::Found;
 use fin_message::{Message, MessageFault, verdict_into};
 use pay_plan::{Ask, Asked, Charged, accounts_of, asked_of, pay_on};
 use std::alloc::Global;
+use std::mem;
 
 /// An advice or a page of a statement: it tells of an account and asks for no pay.
 pub const P37: Code = Code(*b"P37");
@@ -73,51 +74,51 @@ pub fn reference(envelope: &Envelope) -> Mir
     envelope.mir.unwrap()
 }
 
-/// A message that asks for a pay and has one: its reference, its envelope and text, what it asks of the books, and the accounts that
-/// it has, with what it is charged.
+/// A message that asks for a pay and has one: its reference, its envelope, the text that its pay keeps, what it asks of the books, and
+/// the accounts that it has, with what it is charged.
 #[derive(Drop)]
 pub struct Asking<'m> {
     pub mir: Mir,
     pub envelope: &'m Envelope,
-    pub text: &'m Text,
+    pub text: Text,
     pub asked: Asked<'m>,
     pub charged: Charged,
 }
 
 impl<'m> Asking<'m> {
     /// The pay. `Memory`: there was no room for it.
-    pub fn pay(&self, alloc: Global, accounts: &Accounts) -> Result<Pay, Memory>
-        requires { IsAsking accounts.now self.now }
-        ensures value { IfOk result (λ pay. pay ≡ pay_asked accounts.now self.now) }
+    pub fn pay(self, alloc: Global, accounts: &Accounts) -> Result<Pay, Memory>
+        requires { IsAsking accounts.now self }
+        ensures value { IfOk result (λ pay. pay ≡ pay_asked accounts.now self.entry) }
         ensures fits { IfOk result (FitsAccounts accounts.now) }
-        ensures shape { IsWritten self.now → IfOk result HasShape }
+        ensures shape { IsWritten self.entry → IfOk result HasShape }
     {
-        pay_on(
-            alloc,
-            self.mir,
-            self.envelope,
-            self.text,
-            &self.asked,
-            &self.charged,
-            accounts,
-        )
+        let Asking {
+            mir,
+            envelope,
+            text,
+            asked,
+            charged,
+        } = self;
+        pay_on(alloc, mir, envelope, text, &asked, &charged, accounts)
     }
 }
 
-/// What a message asks, on the accounts that it has; or the code with which it has none. Takes no memory.
+/// What a message asks, on the accounts that it has, with its text, which is taken; or the code with which it has none. Takes no memory.
 pub fn route_ask<'m>(
+    alloc: Global,
     directory: &Directory,
     accounts: &Accounts,
     envelope: &'m Envelope,
-    text: &'m Text,
+    text: &mut Text,
     ask: Ask<'m>,
 ) -> Result<Asking<'m>, Code>
     requires received { IsSome envelope.now.mir }
     requires read { IsSomeReading ask }
     ensures asks { IfOk result (IsAsking accounts.now) }
-    ensures plan { IfOk result (λ asking. plan_of envelope.now text.now (unplaced ask.entry) directory.now.ssi directory.now.charges accounts.now ≡ Ok (pay_asked accounts.now asking)) }
-    ensures written { IsWritable envelope.now text.now → IfOk result IsWritten }
-    ensures refused { IfErr result (λ code. plan_of envelope.now text.now (unplaced ask.entry) directory.now.ssi directory.now.charges accounts.now ≡ Err code) }
+    ensures plan { IfOk result (λ asking. plan_of envelope.now text.old (unplaced ask.entry) directory.now.ssi directory.now.charges accounts.now ≡ Ok (pay_asked accounts.now asking)) }
+    ensures written { IsWritable envelope.now text.old → IfOk result IsWritten }
+    ensures refused { IfErr result (λ code. plan_of envelope.now text.old (unplaced ask.entry) directory.now.ssi directory.now.charges accounts.now ≡ Err code) }
 {
     let asked = asked_of(accounts.home(), ask);
     match accounts_of(
@@ -131,7 +132,7 @@ pub fn route_ask<'m>(
         Ok(charged) => Ok(Asking {
             mir: reference(envelope),
             envelope,
-            text,
+            text: mem::replace(text, Text::from_vec(Vec::new(alloc))),
             asked,
             charged,
         }),
@@ -141,20 +142,21 @@ pub fn route_ask<'m>(
 
 /// The same, or why the message gives no pay.
 fn route_received<'m>(
+    alloc: Global,
     directory: &Directory,
     accounts: &Accounts,
     envelope: &'m Envelope,
-    text: &'m Text,
+    text: &mut Text,
     ask: Ask<'m>,
 ) -> Result<Asking<'m>, NoPay>
     requires received { IsSome envelope.now.mir }
     requires read { IsSomeReading ask }
     ensures asks { IfOk result (IsAsking accounts.now) }
-    ensures pay { IfOk result (λ asking. unrouted envelope.now (plan_of envelope.now text.now (unplaced ask.entry) directory.now.ssi directory.now.charges accounts.now) ≡ Ok (pay_asked accounts.now asking)) }
-    ensures written { IsWritable envelope.now text.now → IfOk result IsWritten }
-    ensures refused { IfErr result (λ why. unrouted envelope.now (plan_of envelope.now text.now (unplaced ask.entry) directory.now.ssi directory.now.charges accounts.now) ≡ Err why) }
+    ensures pay { IfOk result (λ asking. unrouted envelope.now (plan_of envelope.now text.old (unplaced ask.entry) directory.now.ssi directory.now.charges accounts.now) ≡ Ok (pay_asked accounts.now asking)) }
+    ensures written { IsWritable envelope.now text.old → IfOk result IsWritten }
+    ensures refused { IfErr result (λ why. unrouted envelope.now (plan_of envelope.now text.old (unplaced ask.entry) directory.now.ssi directory.now.charges accounts.now) ≡ Err why) }
 {
-    match route_ask(directory, accounts, envelope, text, ask) {
+    match route_ask(alloc, directory, accounts, envelope, text, ask) {
         Ok(asking) => Ok(asking),
         Err(code) => Err(NoPay::Unrouted {
             mir: reference(envelope),
@@ -166,23 +168,38 @@ fn route_received<'m>(
 /// What a valid message asks, on the accounts that it has, or why it gives no pay. An advice and a page of a statement ask for none.
 /// Takes no memory.
 pub fn route_message<'m>(
+    alloc: Global,
     directory: &Directory,
     accounts: &Accounts,
-    message: &'m Message,
+    message: &'m mut Message,
 ) -> Result<Asking<'m>, NoPay>
-    requires received { Goes Received message.now × TextSays directory.now.tables message.now × HasEnvelope message.now }
-    requires short { length (lines_in message.now) ≤ most_text }
+    requires received { Goes Received message.old × TextSays directory.now.tables message.old × HasEnvelope message.old }
+    requires short { length (lines_in message.old) ≤ most_text }
     ensures asks { IfOk result (IsAsking accounts.now) }
-    ensures pay { IfOk result (λ asking. pay_in directory.now accounts.now message.now ≡ Ok (pay_asked accounts.now asking)) }
+    ensures pay { IfOk result (λ asking. pay_in directory.now accounts.now message.old ≡ Ok (pay_asked accounts.now asking)) }
     ensures written { IfOk result IsWritten }
-    ensures refused { IfErr result (λ why. pay_in directory.now accounts.now message.now ≡ Err why) }
+    ensures refused { IfErr result (λ why. pay_in directory.now accounts.now message.old ≡ Err why) }
 {
     match message {
         Message::Transfer(envelope, text, transfer) => {
-            route_received(directory, accounts, envelope, text, Ask::Transfer(transfer))
+            route_received(
+                alloc,
+                directory,
+                accounts,
+                envelope,
+                text,
+                Ask::Transfer(transfer),
+            )
         }
         Message::Cover(envelope, text, cover) => {
-            route_received(directory, accounts, envelope, text, Ask::Cover(cover))
+            route_received(
+                alloc,
+                directory,
+                accounts,
+                envelope,
+                text,
+                Ask::Cover(cover),
+            )
         }
         Message::Debit(envelope, _) | Message::Credit(envelope, _) | Message::Page(envelope, _) => {
             Err(NoPay::Unrouted {

@@ -2,21 +2,25 @@
 
 ghost use Rattle.std.specs.Prelude.{◌≡◌, ◌≤◌, ◌++◌, All, IfOk, OnOk, codes, take};
 ghost use Rattle.std.specs.Int.{IsInRange};
+ghost use Rattle.std.specs.Thread.{IsSync};
 ghost use Rattle.day_model.specs.Log.{most_entries};
 ghost use Rattle.advices.specs.Messages.{messages_of};
 ghost use Rattle.advices.specs.Valid.{AreAccepted};
 ghost use Rattle.corr_ids.specs.Bic.{IsBic};
 ghost use Rattle.corr_top.specs.inner.Serving.{HasPayShape};
 ghost use Rattle.corr_top.specs.inner.Origin.{SendsAccepted};
+ghost use Rattle.corr_top.specs.inner.Sides.{IsSendable, IsSentOf};
 ghost use Rattle.corr_top.specs.Out.{parted_all, sent_from, entry_out};
 ghost use Rattle.day_model.specs.Fit.{FitsAccounts};
 ghost use Rattle.day_model.specs.Legal.{IsLegal};
 ghost use Rattle.day_model.specs.Shape.{HasShape};
 
+use crate::sides::{FEW, joined, part_of};
 use advices::orders;
 use corr_text::{Memory, Text};
 use day_model::{Accounts, Entry, History};
 use std::alloc::Global;
+use std::thread::{Threads, join};
 
 /// Appends a message, followed by `$`.
 fn push_message(message: &Text, out: &mut Text) -> Result<(), Memory>
@@ -85,4 +89,38 @@ pub fn outgoing(
         push_orders(alloc, a, place, h.get(place), &mut out)?;
     }
     Ok(out)
+}
+
+/// What `outgoing` makes, by up to so many threads at once, each of which makes the messages of a range of places.
+#[cycle(sides)]
+pub fn outgoing_by<R: Threads + Sync>(
+    rt: &R,
+    alloc: Global,
+    a: &Accounts,
+    h: &History,
+    from: u32,
+    until: u32,
+    threads: u32,
+) -> Result<Text, Memory>
+    requires sendable { IsSendable a.now h.now.entries }
+    requires from { 1 ≤ from }
+    ensures { IfOk result (IsSentOf a.now h.now.entries from until) }
+{
+    if threads < 2 || until < from || until - from < FEW {
+        return outgoing(alloc, a, h, from, until);
+    }
+    let some = threads / 2;
+    let others = threads - some;
+    let next = from + part_of(until - from, some, threads);
+    let last = next - 1;
+    let front = move || -> Result<Text, Memory>
+        requires { IsSync R.row × IsSendable a.now h.now.entries × (1 ≤ from) }
+        ensures { IfOk result (IsSentOf a.entry.now h.entry.now.entries from last) }
+    { outgoing_by(rt, alloc, a, h, from, last, some) };
+    let back = move || -> Result<Text, Memory>
+        requires { IsSync R.row × IsSendable a.now h.now.entries × (1 ≤ next) }
+        ensures { IfOk result (IsSentOf a.entry.now h.entry.now.entries next until) }
+    { outgoing_by(rt, alloc, a, h, next, until, others) };
+    let (front, back) = join(rt, front, back);
+    joined(front?, back?)
 }

@@ -4,7 +4,7 @@ ghost use Rattle.std.specs.Prelude.{◌≡◌, ◌≤◌, ◌<◌, ◌^◌, ℕ,
 ghost use Rattle.std.specs.Io.KnownBytes.{IsAtEnd};
 ghost use Rattle.std.specs.declared.option.Option.{Option};
 ghost use Rattle.corr_top.specs.Reading.{Took};
-ghost use Rattle.corr_top.specs.inner.Reading.{AddsRead, IsStopped, chunk_bytes};
+ghost use Rattle.corr_top.specs.inner.Reading.{AddsRead, AddsSome, IsStopped, chunk_bytes};
 
 use corr_io::Source;
 use corr_text::{Memory, Text};
@@ -47,7 +47,7 @@ pub fn make_chunk(alloc: Global) -> Result<Vec<u8>, AllocError>
 }
 
 /// Reads behind a text until it has so many bytes, or nothing is left of the source, which it tells. `Fault`: a read failed. What was
-/// read before a failure stays.
+/// read before a failure stays; where memory ran out the bytes of the last read are lost.
 pub fn read_until<S: Source>(
     source: &mut S,
     chunk: &mut [u8],
@@ -61,7 +61,7 @@ pub fn read_until<S: Source>(
     ensures full { IfOk result (λ ended. ended ≡ false → until ≤ length text.new) }
     ensures bound { length text.old ≤ until → length text.new ≤ until }
     ensures stopped { IfErr result (IsStopped S.faults source.old source.new) }
-    ensures text { (rest : Option (List ℕ)) × AddsRead (S.left source.old) rest text.old text.new }
+    ensures text { AddsSome (S.left source.old) (S.left source.new) until text.old text.new }
 {
     let before = source.faults();
     while text.bytes().len() < until {

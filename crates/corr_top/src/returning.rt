@@ -80,22 +80,12 @@ fn enter_named<N: BooksName, R: Wait, D: Disk + Drop, G: Gate>(
     ensures entered { IfOk result (λ e. IsEntered D.Disk (opening_with D.Disk opened 1 1) N.past pay.now e) }
     ensures disk { IfErr result (λ e. e.0 ≡ disk_of opened.file) }
 {
-    let Ok(mut back) = Vec::with_capacity(alloc, 1) else {
-        return Err((opened.into_disk(), Memory));
-    };
     let (books, mut passes) = match opened.books::<N>(alloc, 1) {
         Ok(made) => made,
         Err(refused) => return Err(refused),
     };
-    let Some(mut pass) = passes.pop() else {
-        unreachable!()
-    };
-    let answer = books.book(rt, &mut pass, 1, pay, gate);
-    back.push_reserved(pass);
-    let closed = match books.close(back) {
-        Ok(closed) => closed,
-        Err(_) => unreachable!(),
-    };
+    let answer = books.book(rt, &mut passes[0], 1, pay, gate);
+    let closed = books.close_all(passes);
     Ok(Entered {
         closed,
         made: as_served(pay.mir, answer),

@@ -18,13 +18,13 @@ ghost use Rattle.corr_top.specs.MessageFile.{most_messages};
 ghost use Rattle.corr_top.specs.Out.{sent_from};
 ghost use Rattle.corr_top.specs.inner.Serving.{HasPayShape, are_replies};
 ghost use Rattle.corr_top.specs.declared.words.Command.TheVariants.{Run};
-ghost use Rattle.corr_top.specs.declared.desk.Served.TheVariants.{Reply as HasReply};
 ghost use Rattle.day_model.specs.declared.reply.Reply.{Reply as TheReply};
 
 use crate::answers::check_replies;
 use crate::desk::Served;
 use crate::directory::{Directory, read_directory};
-use crate::outgoing::outgoing;
+use crate::outgoing::outgoing_by;
+use crate::replies::report_served;
 use crate::room::Room;
 use crate::serving::{ServedDay, StreamedDay, serve_stream};
 use crate::status::Status;
@@ -34,55 +34,23 @@ use corr_books::{Closed, Opened, open_books};
 use corr_disk::Disk;
 use corr_ids::Day;
 use corr_io::{Sink, Source};
-use corr_report::{put_reply_line, put_report_end};
-use corr_text::{Decimal, Memory, Text, let_go};
-use day_model::{Accounts, History, Reply};
+use corr_text::{Memory, Text, let_go};
+use day_model::{Accounts, History};
 use std::alloc::Global;
 use std::sync::Wait;
 use std::thread::Threads;
 use work_pool::Gate;
 
-/// The reply of a message that has one.
-fn reply_in(served: &Served) -> &Reply
-    requires { (reply : TheReply) × (served.now ≡ HasReply reply) }
-    ensures { served.now ≡ HasReply result.now }
-{
-    match served {
-        Served::Reply(reply) => reply,
-        _ => unreachable!(),
-    }
-}
-
-/// The report of replies, where they stand among what was served, in the memory of `room`.
-fn report_served(
-    alloc: Global,
-    a: &Accounts,
-    h: &History,
-    served: &[Served],
-    room: Text,
-) -> Result<Text, Memory>
-    requires legal { IsLegal a.now h.now.entries }
-    requires served { (replies : List TheReply) × (served.now ≡ are_replies replies) × All (NamesPlace h.now.entries) replies }
-    ensures { IfOk result (λ text. (replies : List TheReply) → served.now ≡ are_replies replies → text ≡ report_of a.now h.now.entries replies) }
-{
-    let mut report = room;
-    report.truncate(0);
-    let mut digits = Decimal::new();
-    for (at, one) in served.iter().enumerate() {
-        let reply = reply_in(one);
-        put_reply_line(alloc, a, h, at as u64 + 1, reply, &mut digits, &mut report)?;
-    }
-    put_report_end(alloc, a, h, served.len() as u64, &mut report)?;
-    Ok(report)
-}
-
-/// The report of replies, in the memory of `room`, and the outgoing messages of the entries after the first `count`.
-fn make_texts(
+/// The report of replies, in the memory of `room`, and the outgoing messages of the entries after the first `count`, by up to so many
+/// threads at once.
+fn make_texts<R: Threads + Sync>(
+    rt: &R,
     alloc: Global,
     a: &Accounts,
     h: &History,
     count: u32,
     served: &[Served],
+    threads: u32,
     room: Text,
 ) -> Result<Texts, Memory>
     requires home { IsBic a.now.home }
@@ -95,19 +63,21 @@ fn make_texts(
     ensures accepted { OnOk result (SendsAccepted a.now (count + 1) h.now.entries) }
 {
     Ok(Texts {
-        report: report_served(alloc, a, h, served, room)?,
-        out: outgoing(alloc, a, h, count + 1, h.len())?,
+        report: report_served(rt, alloc, a, h, served, threads, room)?,
+        out: outgoing_by(rt, alloc, a, h, count + 1, h.len(), threads)?,
     })
 }
 
 /// The texts of a day that was served, or why there are none. The disk's count of faults was `before` at the opening, and the
-/// history then had `count` entries. The report is made in the memory of `room`.
-fn texts_of<D: Disk + Drop>(
+/// history then had `count` entries. Up to so many threads make them at once, the report in the memory of `room`.
+fn texts_of<R: Threads + Sync, D: Disk + Drop>(
+    rt: &R,
     alloc: Global,
     day: &Closed<D>,
     served: Vec<Served>,
     before: u64,
     count: u32,
+    threads: u32,
     room: Text,
 ) -> Result<Texts, Status>
     requires journal { IsJournal day.now.accounts day.now.history.entries }
@@ -117,7 +87,8 @@ fn texts_of<D: Disk + Drop>(
 {
     let served = served.as_slice();
     check_replies(before, day.disk.faults(), served)?;
-    Ok(make_texts(alloc, &day.accounts, &day.history, count, served, room)?)
+    let (a, h) = (&day.accounts, &day.history);
+    Ok(make_texts(rt, alloc, a, h, count, served, threads, room)?)
 }
 
 /// The disk of books that were closed.
@@ -127,12 +98,15 @@ pub fn into_disk<D: Disk>(closed: Closed<D>) -> D
     closed.disk
 }
 
-/// The disk and the texts of a day whose messages were served, or why there are none. The report is made in the memory of `room`.
-fn end_served<D: Disk + Drop>(
+/// The disk and the texts of a day whose messages were served, or why there are none. Up to so many threads make them at once, the
+/// report in the memory of `room`.
+fn end_served<R: Threads + Sync, D: Disk + Drop>(
+    rt: &R,
     alloc: Global,
     day: ServedDay<D>,
     before: u64,
     count: u32,
+    threads: u32,
     room: Text,
 ) -> (D, Result<Texts, Status>)
     requires journal { IsJournal day.closed.accounts day.closed.history.entries }
@@ -144,7 +118,7 @@ fn end_served<D: Disk + Drop>(
     let ServedDay { closed, served } = day;
     match served {
         Ok(served) => {
-            let texts = texts_of(alloc, &closed, served, before, count, room);
+            let texts = texts_of(rt, alloc, &closed, served, before, count, threads, room);
             (into_disk(closed), texts)
         }
         Err(memory) => (into_disk(closed), Err(Status::from(memory))),
@@ -152,13 +126,15 @@ fn end_served<D: Disk + Drop>(
 }
 
 /// The source, the disk and the texts of a day whose messages were served while the file was read, or why there are none: what the file
-/// stopped by is told first. The disk's count of faults was `before` at the opening, and the history then had `count` entries. The
-/// report is made in the memory of the file's text.
-fn end_day<S: Source + Drop, D: Disk + Drop>(
+/// stopped by is told first. The disk's count of faults was `before` at the opening, and the history then had `count` entries. Up to
+/// so many threads make the texts at once, the report in the memory of the file's text.
+fn end_day<R: Threads + Sync, S: Source + Drop, D: Disk + Drop>(
+    rt: &R,
     alloc: Global,
     day: StreamedDay<S, D>,
     before: u64,
     count: u32,
+    threads: u32,
 ) -> (S, D, Result<Texts, Status>)
     requires journal { IsJournal day.day.closed.accounts day.day.closed.history.entries }
     requires places { IfOk day.day.served (λ made. (replies : List TheReply) → made.items ≡ are_replies replies → All (NamesPlace day.day.closed.history.entries) replies) }
@@ -177,7 +153,7 @@ fn end_day<S: Source + Drop, D: Disk + Drop>(
     if let Stage::Stopped(stop) = stage {
         return (source, into_disk(day.closed), Err(Status::from(stop)));
     }
-    let (disk, texts) = end_served(alloc, day, before, count, text);
+    let (disk, texts) = end_served(rt, alloc, day, before, count, threads, text);
     (source, disk, texts)
 }
 
@@ -203,7 +179,7 @@ fn run_day<R: Wait + Threads + Sync, S: Source + Drop, D: Disk + Drop + Send, G:
 {
     let count = opened.history().len();
     match serve_stream(rt, alloc, directory, source, opened, workers, entries, gate) {
-        Ok(day) => end_day(alloc, day, before, count),
+        Ok(day) => end_day(rt, alloc, day, before, count, workers),
         Err((source, disk, memory)) => (source, disk, Err(Status::from(memory))),
     }
 }

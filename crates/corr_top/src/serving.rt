@@ -1,11 +1,13 @@
 //! Workers serve the messages of a day over the books of a journal.
 
-ghost use Rattle.std.specs.Prelude.{◌≡◌, ◌≤◌, [], IfErr, IfOk, length, vec_capacity};
+ghost use Rattle.std.specs.Prelude.{◌≡◌, ◌≤◌, [], IfErr, IfOk, length, map, vec_capacity, vec_len};
 ghost use Rattle.jrn_book.specs.Batches.{most_batch};
 ghost use Rattle.jrn_book.specs.Journal.{IsJournal};
 ghost use Rattle.jrn_file.specs.File.{disk_of};
+ghost use Rattle.corr_books.specs.Closing.{Closes, LeavesClosed, LeavesInTurn};
 ghost use Rattle.corr_books.specs.Opening.{IsNamed, opening_with, past_of};
-ghost use Rattle.work_pool.specs.Served.{most_workers};
+ghost use Rattle.corr_books.specs.Passes.{Belongs};
+ghost use Rattle.work_pool.specs.Served.{AllTaken, most_workers};
 ghost use Rattle.corr_top.specs.inner.Batching.{all_made};
 ghost use Rattle.corr_top.specs.Message.{readings_of};
 ghost use Rattle.corr_top.specs.inner.Serving.{AllServed};
@@ -71,6 +73,29 @@ fn served_of(replies: Result<Vec<Made>, Memory>, room: Vec<Served>) -> Result<Ve
     Ok(served)
 }
 
+/// Closes the books of a desk with the passes of its workers, in whose room they are put together.
+fn close_desk<N: BooksName, D: Disk>(
+    desk: RunDesk<'_, N, D>,
+    workers: Vec<Worker>,
+    room: Vec<Pass>,
+) -> Closed<D>
+    requires passes { AllTaken (λ worker. Belongs N.opening worker.pass) workers.items }
+    requires all { vec_len workers ≡ N.opening.made }
+    requires none { room.items ≡ [] }
+    requires room { vec_len workers ≤ vec_capacity room }
+    ensures closes { Closes N.opening result.history.entries (D.faults result.disk) (map (λ worker. worker.pass) workers.items) }
+    ensures accounts { result.accounts ≡ N.opening.accounts }
+    ensures journal { IsJournal result.accounts result.history.entries }
+    ensures disk { LeavesClosed D.Disk N.opening result.history.entries result.disk }
+    ensures honest { D.honest result.disk ≡ N.opening.honest }
+    ensures any_moment { LeavesInTurn D.Disk N.opening N.past result.history.entries result.disk }
+{
+    let RunDesk { books, .. } = desk;
+    let mut passes = room;
+    vacate(&mut passes, workers);
+    books.close_all(passes)
+}
+
 /// What `serve_all` does, where `N` names the opening, and so many entries under one sync.
 ///
 /// Where there is no memory for the books, the disk comes back as it was.
@@ -111,7 +136,7 @@ fn serve_named<
     };
     let Places {
         workers: mut staff,
-        passes: mut back,
+        passes: back,
         served,
     } = places;
     seat(alloc, &mut staff, passes);
@@ -121,12 +146,7 @@ fn serve_named<
         books,
     };
     let worked = run_jobs(rt, alloc, &desk, staff, batches, gate);
-    let RunDesk { books, .. } = desk;
-    vacate(&mut back, worked.passes);
-    let closed = match books.close(back) {
-        Ok(closed) => closed,
-        Err(_) => unreachable!(),
-    };
+    let closed = close_desk(desk, worked.passes, back);
     Ok(ServedDay {
         closed,
         served: served_of(worked.replies, served),
@@ -201,7 +221,7 @@ fn serve_fed<
     requires journal { IsJournal opened.accounts opened.base }
     requires count { (1 ≤ workers) × (workers ≤ most_workers) }
     ensures served { IfOk result (λ s. StreamServed S.Source D.Disk (opening_with D.Disk opened workers entries) N.past (readings_of directory.now opened.accounts) source s) }
-    ensures err { IfErr result (λ e. (S.faults e.0 ≡ S.faults source) × (e.1 ≡ disk_of opened.file)) }
+    ensures err { IfErr result (λ e. (e.0 ≡ source) × (e.1 ≡ disk_of opened.file)) }
 {
     let Ok(places) = make_places(alloc, workers, 0) else {
         return Err((source, opened.into_disk(), Memory));
@@ -219,7 +239,7 @@ fn serve_fed<
     };
     let Places {
         workers: mut staff,
-        passes: mut back,
+        passes: back,
         served: _,
     } = places;
     seat(alloc, &mut staff, passes);
@@ -233,12 +253,7 @@ fn serve_fed<
         feed,
         replies,
     } = run_feed(rt, alloc, &desk, staff, feed, DEPTH, gate);
-    let RunDesk { books, .. } = desk;
-    vacate(&mut back, passes);
-    let closed = match books.close(back) {
-        Ok(closed) => closed,
-        Err(_) => unreachable!(),
-    };
+    let closed = close_desk(desk, passes, back);
     let served = join_made(alloc, replies);
     Ok(StreamedDay {
         day: ServedDay { closed, served },
@@ -269,7 +284,7 @@ pub fn serve_stream<
     requires entries { (1 ≤ entries) × (entries ≤ most_batch) }
     requires journal { IsJournal opened.accounts opened.base }
     ensures served { IfOk result (λ s. StreamServed S.Source D.Disk (opening_with D.Disk opened workers entries) (past_of D.Disk opened) (readings_of directory.now opened.accounts) source s) }
-    ensures err { IfErr result (λ e. (S.faults e.0 ≡ S.faults source) × (e.1 ≡ disk_of opened.file)) }
+    ensures err { IfErr result (λ e. (e.0 ≡ source) × (e.1 ≡ disk_of opened.file)) }
 {
     serve_fed::<Brand, Brand, _, _, _, _>(
         rt, alloc, directory, source, opened, workers, entries, gate,

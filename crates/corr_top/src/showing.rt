@@ -80,7 +80,8 @@ fn stand<D: Disk>(
     ensures shown { IfOk result (IsShownStanding book.now.accounts) }
 {
     let accounts = book.accounts();
-    match route_ask(directory, accounts, envelope, text, ask) {
+    let mut lines = text.copy(alloc)?;
+    match route_ask(alloc, directory, accounts, envelope, &mut lines, ask) {
         Ok(asking) => {
             let pay = asking.pay(alloc, accounts)?;
             let place = book.place_of(&pay.mir);

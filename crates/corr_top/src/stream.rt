@@ -1,7 +1,7 @@
 //! The message file, read in pieces and cut as they come.
 
-ghost use Rattle.std.specs.Prelude.{◌≡◌, ◌<◌, ◌+◌, ◌-◌, ◌≤◌, ◌++◌, ℕ, List, [], All, IfErr, IfOk, OnOk, false, true, length, drop, take, vec_capacity, vec_len};
-ghost use Rattle.std.specs.Io.KnownBytes.{Consumes, IsAtEnd};
+ghost use Rattle.std.specs.Prelude.{◌≡◌, ◌⊎◌, ◌<◌, ◌+◌, ◌-◌, ◌≤◌, ◌++◌, ℕ, List, [], All, IfErr, IfOk, OnOk, false, true, length, drop, take, vec_capacity, vec_len};
+ghost use Rattle.std.specs.Io.KnownBytes.{IsAtEnd};
 ghost use Rattle.std.specs.declared.option.Option.{Option};
 ghost use Rattle.fin_frame.specs.File.{IsCutInto};
 ghost use Rattle.fin_frame.specs.Pieces.{HasTakenFile, IsPlaceIn, at_places};
@@ -9,7 +9,7 @@ ghost use Rattle.fin_frame.specs.Whole.{is_led};
 ghost use Rattle.corr_top.specs.MessageFile.{IsMessageFile, most_message_bytes, most_messages};
 ghost use Rattle.corr_top.specs.Reading.{IsRead};
 ghost use Rattle.corr_top.specs.inner.Reading.{chunk_bytes};
-ghost use Rattle.corr_top.specs.inner.Stream.{HasFound, IsReadOn, IsSameCut, IsStreamOf, StopsStream, messages_so_far, most_found, stage_at, stop_at};
+ghost use Rattle.corr_top.specs.inner.Stream.{HasFirst, HasFound, IsReadOn, IsSameCut, IsStreamOf, StopsStream, messages_so_far, most_found, stage_at, stop_at};
 ghost use Rattle.corr_top.specs.declared.cutting.FileStop.{FileStop};
 ghost use Rattle.corr_top.specs.declared.stream.Stage.TheVariants as stage;
 
@@ -154,13 +154,14 @@ impl<S: Source> MessageFile<S> {
     /// Reads on until there are so many bytes, or the source's end is met, which it tells.
     fn fill(&mut self, until: usize) -> Result<bool, FileStop>
         requires chunk { vec_len self.old.chunk ≡ chunk_bytes }
+        requires until { (length self.old.text ≤ until) × (until ≤ most_message_bytes + 1) }
         ensures read { OnOk result ((left : Option (List ℕ)) (faults : ℕ) → IsReadOn S.Source left faults self.old → IsReadOn S.Source left faults self.new) }
         ensures ended { IfOk result (λ ended. ended ≡ true → IsAtEnd (S.left self.new.source)) }
         ensures full { IfOk result (λ ended. ended ≡ false → until ≤ length self.new.text) }
-        ensures bound { length self.old.text ≤ until → length self.new.text ≤ until }
+        ensures bound { length self.new.text ≤ until }
         ensures stopped { IfErr result (λ stop. (left : Option (List ℕ)) (faults : ℕ) → IsReadOn S.Source left faults self.old
             → StopsStream left faults (S.left self.new.source) (S.faults self.new.source) self.new.text stop) }
-        ensures text { (left : Option (List ℕ)) (faults : ℕ) → IsReadOn S.Source left faults self.old → (rest : Option (List ℕ)) × Consumes left rest self.new.text }
+        ensures text { (left : Option (List ℕ)) (faults : ℕ) → IsReadOn S.Source left faults self.old → HasFirst left (S.left self.new.source) self.new.text }
         ensures grown { (more : List ℕ) × (self.new.text ≡ self.old.text ++ more) }
         ensures same { IsSameCut self.old self.new × (self.new.stage ≡ self.old.stage) }
     {
@@ -178,7 +179,7 @@ impl<S: Source> MessageFile<S> {
         ensures bound { length self.new.text ≤ most_message_bytes + 1 }
         ensures stopped { IfErr result (λ stop. (left : Option (List ℕ)) (faults : ℕ) → IsReadOn S.Source left faults self.old
             → StopsStream left faults (S.left self.new.source) (S.faults self.new.source) self.new.text stop) }
-        ensures text { (left : Option (List ℕ)) (faults : ℕ) → IsReadOn S.Source left faults self.old → (rest : Option (List ℕ)) × Consumes left rest self.new.text }
+        ensures text { (left : Option (List ℕ)) (faults : ℕ) → IsReadOn S.Source left faults self.old → HasFirst left (S.left self.new.source) self.new.text }
         ensures grown { (more : List ℕ) × (self.new.text ≡ self.old.text ++ more) × (ended ≡ true → more ≡ []) }
         ensures same { IsSameCut self.old self.new }
     {
@@ -198,7 +199,7 @@ impl<S: Source> MessageFile<S> {
         requires none { (more : List ℕ) (messages : List (List ℕ)) → (ended ≡ true → more ≡ []) → IsMessageFile (self.old.text ++ more) messages → ⊥ }
         ensures stops { (left : Option (List ℕ)) (faults : ℕ) → IsReadOn S.Source left faults self.old
             → StopsStream left faults (S.left self.new.source) (S.faults self.new.source) self.new.text result }
-        ensures text { (left : Option (List ℕ)) (faults : ℕ) → IsReadOn S.Source left faults self.old → (rest : Option (List ℕ)) × Consumes left rest self.new.text }
+        ensures text { (left : Option (List ℕ)) (faults : ℕ) → IsReadOn S.Source left faults self.old → HasFirst left (S.left self.new.source) self.new.text }
         ensures grown { (more : List ℕ) × (self.new.text ≡ self.old.text ++ more) }
         ensures same { IsSameCut self.old self.new }
     {
@@ -257,6 +258,7 @@ impl<S: Source> MessageFile<S> {
         ensures stream { (left : Option (List ℕ)) (faults : ℕ) → IsStreamOf S.Source left faults self.old → IsStreamOf S.Source left faults self.new }
         ensures more { (found : List (List ℕ)) × (messages_so_far self.new ≡ messages_so_far self.old ++ found) }
         ensures on { self.new.stage ≡ stage.Going → (ended ≡ false) × (self.new.text ≡ self.old.text) }
+        ensures text { (self.new.text ≡ self.old.text) ⊎ ((stop : FileStop) × (self.new.stage ≡ stage.Stopped stop)) }
     {
         let mut cutter = self.cutter;
         self.found.clear();
@@ -283,6 +285,8 @@ impl<S: Source> MessageFile<S> {
         ensures more { (found : List (List ℕ)) × (messages_so_far self.new ≡ messages_so_far self.old ++ found) }
         // It goes on only where there were more bytes.
         ensures on { self.new.stage ≡ stage.Going → length self.old.text < length self.new.text }
+        // It has no more than a piece more, unless it stopped.
+        ensures piece { (length self.new.text ≤ length self.old.text + chunk_bytes) ⊎ ((stop : FileStop) × (self.new.stage ≡ stage.Stopped stop)) }
     {
         let until = (self.text.bytes().len() + CHUNK).min(FILE_LIMIT + 1);
         let ended = match self.fill(until) {

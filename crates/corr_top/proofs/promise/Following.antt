@@ -27,16 +27,19 @@ use Rattle.corr_top.specs.declared.words.Command.TheVariants.{Plain}
 use Rattle.corr_top.specs.declared.words.Plain.TheVariants.{Follow}
 use Rattle.corr_top.specs.Commands.{meaning_of}
 use Rattle.corr_top.specs.Ends.{Ends, HasPassed}
-use Rattle.corr_top.specs.Follow.{follow_meaning}
+use Rattle.corr_top.specs.Follow.{follow_meaning, follow_steps}
 use Rattle.corr_top.specs.Followed.{ArePackets, HasPackets, HasTaken, HoldsRecords, IsHeldOrTaken, LeavesRecords, StopsAtTake, StopsTaking, TakesInTurn, follow_line, packet_bytes}
 use Rattle.corr_top.specs.Inputs.{Inputs}
 use Rattle.corr_top.specs.MessageFile.{most_message_bytes}
 use Rattle.corr_top.specs.OnDisk.{IsUnwritten}
+use Rattle.corr_top.specs.Passing.{Passes}
 use Rattle.corr_top.specs.promises.Books.{AtEachMoment, Wrote}
 use Rattle.corr_top.specs.promises.Standby.{FollowPromise, Holds, IsNotTaken, KeepsHeld, RefusesOne, TakesAll, may_take, refuses_packet}
+use Rattle.corr_top.specs.Steps.{Step}
 use Rattle.corr_top.specs.Stops.{status_of_file, status_of_opening, status_of_taking}
 use Rattle.corr_top.proofs.FollowedDisk.{same_held, whole}
 use Rattle.corr_top.proofs.Told.{took_all}
+use Rattle.corr_top.proofs.Walking.{named_has}
 use Rattle.corr_top.proofs.promise.Agreeing.{sound_books}
 use Rattle.corr_top.proofs.promise.Finished.{finished}
 use Rattle.corr_top.proofs.promise.Standing.{stands_other}
@@ -154,7 +157,13 @@ module _ {S K D : Type 0} (source : sources.Ghosts S) (sink : sinks.Ghosts K) (d
   Came j = (AllTaken j × (refuses_packet s ≡ false)) ⊎ (NoneTaken ⊎ SomeTaken j)
 
   all_passed : (j : Inputs) → HasPassed source disk follow_meaning old new j → AllTaken j
-  all_passed j passed = let p = passed.passed in record { begun = p.0; had = p.1.0; taken = p.1.1.0 }
+  all_passed j passed =
+      let P = Passes source disk old new j in
+      record {
+        begun = named_has P Step.begin follow_steps refl passed.passed;
+        had = named_has P Step.packets follow_steps refl passed.passed;
+        taken = named_has P Step.take follow_steps refl passed.passed;
+      }
 
   came_so : (ended : Ends source disk follow_meaning old new sink s) → Came ended.inputs
   came_so ended =

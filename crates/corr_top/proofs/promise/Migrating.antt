@@ -1,5 +1,5 @@
 -- The promise of `migrate`.
-use Rattle.std.proofs.Common.{◌≡◌, ◌⊎◌, ℕ, Bool, List, length, Option, Some, None, false, inl, inr, refl, sym, ap, ◌∙◌, subst}
+use Rattle.std.proofs.Common.{◌≡◌, ◌⊎◌, ◌∷◌, ℕ, Bool, List, [], length, Option, Some, None, false, inl, inr, refl, sym, ap, ◌∙◌, subst}
 use mathlib.Core.Bool.{true≢false}
 use Rattle.std.specs.Prelude.{IsTrue}
 use Rattle.std.specs.Option.{option_map}
@@ -32,10 +32,11 @@ use Rattle.corr_top.specs.OnDisk.{IsUnwritten}
 use Rattle.corr_top.specs.Passing.{Passes, StepIsUntouched, StopsAt}
 use Rattle.corr_top.specs.promises.Accounts.{IsOldBooks, MigratePromise}
 use Rattle.corr_top.specs.promises.Books.{Keeps, writes}
-use Rattle.corr_top.specs.Steps.{Halts}
+use Rattle.corr_top.specs.Steps.{Halts, Step}
 use Rattle.corr_top.specs.Stops.{status_of_copying}
 use Rattle.corr_top.proofs.FaultCounts.{tells_rose}
 use Rattle.corr_top.proofs.Journals.{same_unwritten}
+use Rattle.corr_top.proofs.Walking.{named_has}
 use Rattle.corr_top.proofs.promise.Finished.{came, finished, quiet}
 use Rattle.corr_top.proofs.promise.Running.{keeps_on}
 use Rattle.corr_top.proofs.promise.Untouched.{OnlyNow, stops_unwritten}
@@ -110,9 +111,9 @@ module _ {S K D : Type 0} (source : sources.Ghosts S) (sink : sinks.Ghosts K) (d
 
     how : Halts (Passes source disk old new j) (StopsAt source disk old new j s) (StepIsUntouched disk old new) migrate_steps → (new.disk2 ≡ old.disk2) ⊎ CopyStops
     how halts = elim halts [
-      | inl here ↦ inl here.1.1.0
+      | inl here ↦ inl (named_has (StepIsUntouched disk old new) Step.copy (Step.old_journal ∷ Step.copy ∷ []) refl here.1)
       | inr one ↦ elim one.1 [
-        | inl here ↦ inl here.1.0
+        | inl here ↦ inl (named_has (StepIsUntouched disk old new) Step.copy (Step.copy ∷ []) refl here.1)
         | inr two ↦ elim two.1 [
           | inl here ↦ inr (record { holds = two.0; stop = here.0.0; is = here.0.1; stops = here.0.2 })
           | inr three ↦ absurd three.1
@@ -126,9 +127,15 @@ module _ {S K D : Type 0} (source : sources.Ghosts S) (sink : sinks.Ghosts K) (d
       (new.disk2 ≡ old.disk2)
       ⊎ ((HoldsOld disk old.disk j.chart j.history × OnSecond (λ from to. HasCopied disk from to j.chart j.history) old.disk2 new.disk2) ⊎ CopyStops j)
 
+  old_passed : (j : Inputs) → HasPassed source disk migrate_meaning old new j → HoldsOld disk old.disk j.chart j.history
+  old_passed j passed = named_has (Passes source disk old new j) Step.old_journal migrate_steps refl passed.passed
+
+  copy_passed : (j : Inputs) → HasPassed source disk migrate_meaning old new j → OnSecond (λ from to. HasCopied disk from to j.chart j.history) old.disk2 new.disk2
+  copy_passed j passed = named_has (Passes source disk old new j) Step.copy migrate_steps refl passed.passed
+
   by_end : (ended : Ends source disk migrate_meaning old new sink s) → SecondIs ended.inputs
   by_end ended = elim (came source sink disk old new s migrate_meaning ended) [
-    | inl passed ↦ let p = passed.passed in inr (inl (p.1.0, p.1.1.0))
+    | inl passed ↦ inr (inl (old_passed ended.inputs passed, copy_passed ended.inputs passed))
     | inr halted ↦ elim (how ended.inputs halted.halts) [ inl same ↦ inl same | inr stop ↦ inr (inr stop) ]
   ]
 
@@ -157,10 +164,9 @@ module _ {S K D : Type 0} (source : sources.Ghosts S) (sink : sinks.Ghosts K) (d
   done_with : (j : Inputs) (chart : Chart) (books : List Entry) → HasPassed source disk migrate_meaning old new j → IsOldBooks disk old.disk chart books
       → OnSecond (λ from to. IsTrue (disk.honest from) → Keeps disk to chart books) old.disk2 new.disk2
   done_with j chart books passed is =
-      let p = passed.passed in
-      let holds = p.1.0 in
+      let holds = old_passed j passed in
       let here = on_all disk only (λ a b. HasCopied disk a b j.chart j.history) (λ a b. IsTrue (disk.honest a) → Keeps disk b j.chart j.history)
-      (λ a b has told. keeps_on disk b j.chart j.history (subst IsTrue (sym has.honest) told) has.journal has.made) old.disk2 new.disk2 p.1.1.0 in
+      (λ a b has told. keeps_on disk b j.chart j.history (subst IsTrue (sym has.honest) told) has.journal has.made) old.disk2 new.disk2 (copy_passed j passed) in
       on_told j (λ c b. OnSecond (λ from to. IsTrue (disk.honest from) → Keeps disk to c b) old.disk2 new.disk2) chart books holds is here
 
   -- the second disk tells its bytes as it did

@@ -12,11 +12,11 @@ use Rattle.day_model.specs.Chart.{AreBy, Chart}
 use Rattle.day_model.specs.Next.{fold_of, next_history}
 use Rattle.day_model.specs.declared.entry.Entry.{Entry}
 use Rattle.day_model.specs.declared.pay.Pay.{Pay}
-use Rattle.jrn_book.specs.Answers.{IsFull}
+use Rattle.jrn_book.specs.Answers.{FindsNoRoom, IsFull}
 use Rattle.jrn_book.specs.Batches.{entered_of, lacks_room}
 use Rattle.jrn_book.proofs.laws.Rooms.{no_room}
 use Rattle.pay_returns.specs.Making.{MayReturn, TellsReturnFault}
-use Rattle.corr_top.specs.Booking.{EntersInOrder, FindsNoRoom, IsBack, LacksRoom, StopsEntering}
+use Rattle.corr_top.specs.Booking.{EntersInOrder, IsBack, LacksRoom, StopsEntering}
 use Rattle.corr_top.specs.Ends.{Ends}
 use Rattle.corr_top.specs.Inputs.{Inputs}
 use Rattle.corr_top.specs.OnDisk.{IsUnwritten}
@@ -31,7 +31,7 @@ use Rattle.corr_top.specs.declared.answers.BookStop.TheVariants as booking
 use Rattle.corr_top.specs.declared.room.Room.{Room}
 use Rattle.corr_top.specs.declared.status.Status.{Status}
 use Rattle.corr_top.specs.declared.status.Status.TheVariants as status
-use Rattle.corr_top.proofs.Completing.{opening_memory}
+use Rattle.corr_top.proofs.steps.OpenJournal.{opening_memory}
 use Rattle.corr_top.proofs.FaultCounts.{tells_rose}
 use Rattle.corr_top.proofs.promise.Agreeing.{SameBooks, same_books}
 use Rattle.corr_top.proofs.promise.Running.{keeps_on}

@@ -34,7 +34,8 @@ use Rattle.corr_top.specs.promises.Accounts.{AreRight}
 use Rattle.corr_top.specs.promises.Books.{Keeps, Told, writes}
 use Rattle.corr_top.specs.Steps.{Halts, Step, Walks}
 use Rattle.corr_top.specs.Stops.{status_of_change}
-use Rattle.corr_top.proofs.Completing.{opening_memory, table_memory}
+use Rattle.corr_top.proofs.steps.OpenJournal.{opening_memory}
+use Rattle.corr_top.proofs.steps.Table.{table_memory}
 use Rattle.corr_top.proofs.FaultCounts.{tells_rose}
 use Rattle.corr_top.proofs.Told.{small_table}
 use Rattle.corr_top.proofs.Walking.{contained}

@@ -1,5 +1,5 @@
 -- The promise of `run`.
-use Rattle.std.proofs.Common.{◌≡◌, ◌⊎◌, ◌+◌, ◌≤◌, ℕ, All, List, [], ◌++◌, true, false, inl, inr, length, map, Some, refl, sym, ap, ◌∙◌, subst}
+use Rattle.std.proofs.Common.{◌≡◌, ◌⊎◌, ◌+◌, ◌≤◌, ℕ, zero, suc, All, List, [], ◌∷◌, ◌++◌, true, false, inl, inr, length, map, take, Some, refl, sym, ap, ◌∙◌, arith, subst}
 use Rattle.std.proofs.lemmas.List.{append-nil, length-map}
 use mathlib.Core.List.{IsPrefix, prefix-append}
 use mathlib.Core.Bool.{true≢false}
@@ -34,7 +34,7 @@ use Rattle.corr_top.specs.Commands.{meaning_of}
 use Rattle.corr_top.specs.Ends.{Ends}
 use Rattle.corr_top.specs.Inputs.{Inputs, directory_in, new_in, pays_of, replies_of, tables_in}
 use Rattle.corr_top.specs.Message.{message_reply, pays_in, readings_of}
-use Rattle.corr_top.specs.MessageFile.{IsMessageFile}
+use Rattle.corr_top.specs.MessageFile.{IsMessageFile, most_message_bytes}
 use Rattle.corr_top.specs.OnDisk.{up_to, IsOnDisk, LeavesMidway}
 use Rattle.corr_top.specs.Origin.{AreSentValid}
 use Rattle.corr_top.specs.Out.{sent_from}
@@ -85,6 +85,14 @@ read_front : (file bytes : List ℕ) (rest : Option (List ℕ)) → Consumes (So
 read_front file bytes None took = absurd took
 read_front file bytes (Some more) took = (more, took)
 
+-- the first bytes of a list, up to so many
+front_within : (n : ℕ) (front more : List ℕ) → length front ≤ n → (rest : List ℕ) × (take n (front ++ more) ≡ front ++ rest)
+front_within n [] more fits = (take n more, refl)
+front_within zero (b ∷ front) more fits = absurd (omega (arith, fits))
+front_within (suc n) (b ∷ front) more fits =
+    let shorter = front_within n front more (omega (arith, fits)) in
+    (shorter.0, ap (λ (l : List ℕ). b ∷ l) shorter.1)
+
 -- a stop in the file is told by a status at which the file may have been served in part
 file_early : (stop : FileStop) → ends_early (status_of_file stop) ≡ true
 file_early (file.Fault before after) = refl
@@ -100,12 +108,15 @@ module _ {S K D : Type 0} (source : sources.Ghosts S) (sink : sinks.Ghosts K) (d
       subst (λ (m : List ℕ). IsMessageFile m cut) same had.are
 
   -- and those that were given are its first ones
-  given_of : source.left old.messages ≡ Some i.messages → ends_early s ≡ true → (given : List (List ℕ)) → AreGiven source old.messages new.messages given → AreOfFile s i.messages given
-  given_of messages early given are = elim are.1 [
-    | inl had ↦ inl (whole_file messages are.0 given had)
+  given_of : source.left old.messages ≡ Some i.messages → ends_early s ≡ true → (bytes : List ℕ) (given : List (List ℕ)) → AreGiven source old.messages new.messages bytes given → AreOfFile s i.messages given
+  given_of messages early bytes given all = elim all.are [
+    | inl had ↦ inl (whole_file messages bytes given had)
     | inr shown ↦
-        let front = read_front i.messages are.0 shown.0.0 (subst (λ (left : Option (List ℕ)). Consumes left shown.0.0 are.0) messages shown.0.1) in
-        inr (early, subst (λ (m : List ℕ). ShowWhole m given) (sym front.1) (whole-more front.0 shown.1))
+        let after = source.left new.messages in
+        let front = read_front i.messages bytes after (subst (λ (left : Option (List ℕ)). Consumes left after bytes) messages shown.0.taken) in
+        let within = front_within (most_message_bytes + 1) bytes front.0 shown.0.short in
+        let first : take (most_message_bytes + 1) i.messages ≡ bytes ++ within.0 = ap (λ (m : List ℕ). take (most_message_bytes + 1) m) front.1 ∙ within.1 in
+        inr (early, all.few, subst (λ (m : List ℕ). ShowWhole m given) (sym first) (whole-more within.0 shown.1))
   ]
 
   -- what was read up to the messages is what was told
@@ -278,7 +289,7 @@ module _ {S K D : Type 0} (source : sources.Ghosts S) (sink : sinks.Ghosts K) (d
                 | inr begun ↦ elim begun [
                   | inl in_file ↦
                       let early = subst (λ (t : Status). ends_early t ≡ true) (sym in_file.status_is) (file_early in_file.stop) in
-                      entered_some source sink disk old new s i j (reach serve.ahead) (given_of source sink disk old new s i j messages early j.cut in_file.given) counts kept sure in_file.left halted.silent
+                      entered_some source sink disk old new s i j (reach serve.ahead) (given_of source sink disk old new s i j messages early j.messages j.cut in_file.given) counts kept sure in_file.left halted.silent
                   | inr in_pays ↦ entered_some source sink disk old new s i j (reach serve.ahead) (inl (whole in_pays.file)) counts kept sure in_pays.left halted.silent
                 ]
               ]

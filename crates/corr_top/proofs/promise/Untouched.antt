@@ -104,18 +104,9 @@ module _ {S K D : Type 0} (source : sources.Ghosts S) (disk : disks.Ghosts D) (o
   unreached Step.book_return told unwritten = unwritten
   unreached Step.begin told same = same_unwritten disk only old.disk new.disk same
   unreached Step.take told unwritten = unwritten
-  unreached Step.packets told same = absurd (true≢false (sym told))
   unreached Step.aside told same = same_unwritten disk only old.disk new.disk same
   unreached Step.old_journal told same = same_unwritten disk only old.disk new.disk same
-  unreached (Step.table name) told same = absurd (true≢false (sym told))
-  unreached Step.sums told same = absurd (true≢false (sym told))
-  unreached Step.day told same = absurd (true≢false (sym told))
-  unreached Step.messages told same = absurd (true≢false (sym told))
-  unreached Step.sent told same = absurd (true≢false (sym told))
-  unreached Step.received told same = absurd (true≢false (sym told))
-  unreached Step.second told same = absurd (true≢false (sym told))
-  unreached Step.copy told same = absurd (true≢false (sym told))
-  unreached Step.make_return told same = absurd (true≢false (sym told))
+  unreached _ told same = absurd (true≢false (sym told))
 
   unreached_if : (b : Bool) (step : Step) (steps : List Step) → leaves_disk step ≡ b → (b || list_any leaves_disk steps) ≡ true → StepIsUntouched disk old new step
       → (list_any leaves_disk steps ≡ true → IsUnwritten disk old.disk new.disk) → IsUnwritten disk old.disk new.disk
@@ -141,12 +132,7 @@ module _ {S K D : Type 0} (source : sources.Ghosts S) (disk : disks.Ghosts D) (o
   stops_here Step.old_journal steps told stops all = inl stops.2.untouched
   stops_here Step.copy steps told stops all = inl stops.4
   stops_here Step.aside steps told stops all = absurd stops
-  stops_here (Step.table name) steps told stops all = inl (rest_unwritten steps told all)
-  stops_here Step.sums steps told stops all = inl (rest_unwritten steps told all)
-  stops_here Step.day steps told stops all = inl (rest_unwritten steps told all)
-  stops_here Step.messages steps told stops all = inl (rest_unwritten steps told all)
-  stops_here Step.second steps told stops all = inl (rest_unwritten steps told all)
-  stops_here Step.make_return steps told stops all = inl (rest_unwritten steps told all)
+  stops_here _ steps told stops all = inl (rest_unwritten steps told all)
 
   with_more : (at step : Step) (steps : List Step) → Passes source disk old new i step → StopsNamed at steps → StopsNamed at (step ∷ steps)
   with_more at step steps passed stop = record {

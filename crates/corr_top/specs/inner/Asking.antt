@@ -10,7 +10,7 @@ use Rattle.corr_top.specs.declared.message.Asking.{Asking}
 
 -- its pay
 abbrev pub pay_asked : Chart → Asking → Pay
-pay_asked chart asking = pay_of asking.envelope.now asking.text.now asking.asked asking.charged chart
+pay_asked chart asking = pay_of asking.envelope.now asking.text asking.asked asking.charged chart
 
 -- its reference is the envelope's, what it asks is what a message asks that its reader gives, and the accounts are those of what is asked
 pub record IsAsking (chart : Chart) (asking : Asking) : Type 0 where
@@ -21,4 +21,4 @@ pub record IsAsking (chart : Chart) (asking : Asking) : Type 0 where
 
 -- its pay can be written down
 abbrev pub IsWritten : Asking → Type 0
-IsWritten asking = IsWritable asking.envelope.now asking.text.now
+IsWritten asking = IsWritable asking.envelope.now asking.text

@@ -1,5 +1,5 @@
--- Batches of messages, which a worker answers together.
-use Rattle.std.specs.Prelude.{◌≡◌, ℕ, zero, suc, ◌*◌, ◌≤◌, All, List, [], ◌∷◌, ◌++◌, length, replicate, Option, None, Some, Result, Ok, Err, IfOk, if◌then◌else◌, is_none}
+-- Batches of messages, which a worker answers.
+use Rattle.std.specs.Prelude.{◌≡◌, ℕ, zero, suc, ◌+◌, ◌≤◌, All, List, [], ◌∷◌, ◌++◌, length, replicate, Option, None, Some, Result, Ok, Err, IfOk, if◌then◌else◌, is_none}
 use Rattle.corr_books.specs.Opening.{Opening}
 use Rattle.day_model.specs.declared.pay.Pay.{Pay}
 use Rattle.day_model.specs.Chart.{Chart}
@@ -25,21 +25,27 @@ use Rattle.corr_top.specs.inner.Workers.{Worker}
 
 -- ---- what a batch is
 
--- messages that a worker answers together: some, and no more than entries come under one sync
-pub record IsBatch (most : ℕ) (messages : List (List ℕ)) : Type 0 where
+-- messages of a batch: some, and no more than entries ever come under one sync
+pub record IsBatch (messages : List (List ℕ)) : Type 0 where
   pub some : 1 ≤ length messages
   pub few : length messages ≤ most_batch
-  pub named : length messages ≤ most
 
 -- a message has at most as many bytes as one may have
 abbrev pub IsShort : List ℕ → Type 0
 IsShort message = length message ≤ most_bytes
 
--- the messages at these places of a text stand in it, and are short; so the text is
+-- the messages at these places of a text stand in it, and are short
 pub record AreInText (text : List ℕ) (places : List Place) : Type 0 where
   pub within : All (IsPlaceIn (length text)) places
   pub short : All IsShort (at_places text places)
-  pub small : length text ≤ most_bytes * length places
+
+-- the place stands between these bytes
+abbrev pub StandsBetween : ℕ → ℕ → Place → Type 0
+StandsBetween begin past place = (begin ≤ place.from) × (place.from + place.len ≤ past)
+
+-- the place behind so many bytes more
+abbrev pub behind : ℕ → Place → Place
+behind begin place = record { from = begin + place.from; len = place.len }
 
 -- the messages of batches, in their order
 abbrev pub messages_in : List (List (List ℕ)) → List (List ℕ)

@@ -31,11 +31,25 @@ use Rattle.corr_top.specs.Passing.{AreGiven, HasMessages, StopsAtMessages}
 use Rattle.corr_top.specs.inner.Serving.{HasServed, are_replies}
 use Rattle.corr_top.specs.Stops.{status_of_booking, status_of_file}
 
--- the texts over accounts, a history and replies, one for each message; or why there are none
+-- the texts over accounts, a history and replies, one for each message, where the disk didn't fail
+pub record AreTexts (chart : Chart) (history : List Entry) (made : List Served) (before after count : ℕ) (texts : Texts) : Type 0 where
+  pub replies : List Reply
+  pub made_is : made ≡ are_replies replies
+  pub calm : IsCalm before after
+  pub report_is : texts.report ≡ report_of chart history replies
+  pub out_is : texts.out ≡ sent_from chart (count + 1) history
+  pub accepted : SendsAccepted chart (count + 1) history
+
+-- why there are none
+pub record HasNoTexts (made : List Served) (before after : ℕ) (s : Status) : Type 0 where
+  pub stop : BookStop
+  pub status_is : s ≡ status_of_booking stop
+  pub stops : StopsAsServed before after made stop
+
+-- the texts, or why there are none
 abbrev pub GivesTexts : Chart → List Entry → List Served → ℕ → ℕ → ℕ → Result Texts Status → Type 0
-GivesTexts chart history made before after count (Ok texts) = (replies : List Reply) × (made ≡ are_replies replies) × IsCalm before after
-    × (texts.report ≡ report_of chart history replies) × (texts.out ≡ sent_from chart (count + 1) history) × SendsAccepted chart (count + 1) history
-GivesTexts chart history made before after count (Err s) = (stop : BookStop) × (s ≡ status_of_booking stop) × StopsAsServed before after made stop
+GivesTexts chart history made before after count (Ok texts) = AreTexts chart history made before after count texts
+GivesTexts chart history made before after count (Err s) = HasNoTexts made before after s
 
 -- the same of a day that was served; where there was no memory to serve any message, there is none for the texts
 pub record GivesServed {D : Type 0} (disk : disks.Ghosts D) (day : ServedDay D) (before count : ℕ) (r : Result Texts Status) : Type 0 where
@@ -71,10 +85,10 @@ module _ {S D : Type 0} (source : sources.Ghosts S) (disk : disks.Ghosts D) (dir
     pub calm : IsCalm old.at_open (disk.faults new)
     pub answered : HasAnswered (opening_with disk old workers most) (readings_in cut) history replies
 
-  -- there was no memory for the feed or for the books: nothing was served, and the disk is as it was
+  -- there was no memory for the feed or for the books: nothing was read or served, and the disk is as it was
   pub record HasNoDay (s : Status) : Type 0 where
     pub status_is : s ≡ status.Memory
-    pub kept : source.faults to ≡ source.faults from
+    pub unread : to ≡ from
     pub same : new ≡ disk_of old.file
 
   -- the message file stopped the run, or memory ran out while its messages were served: those that were given until then were served, one
@@ -86,7 +100,7 @@ module _ {S D : Type 0} (source : sources.Ghosts S) (disk : disks.Ghosts D) (dir
     pub history : List Entry
     pub status_is : s ≡ status_of_file stop
     pub stops : StopsAtMessages source from to bytes stop
-    pub are_given : AreGiven source from to given
+    pub are_given : AreGiven source from to bytes given
     pub served : HasServed disk (opening_with disk old workers most) (past_of disk old) (readings_in given) old.accounts history new
     pub alone : workers ≡ 1 → EntersFront old.accounts old.base (pays_in (readings_in given)) old.day history
 
@@ -103,9 +117,18 @@ module _ {S D : Type 0} (source : sources.Ghosts S) (disk : disks.Ghosts D) (dir
     pub alone : workers ≡ 1 → EntersInOrder old.accounts old.base (pays_in (readings_in cut)) old.day history stop
     pub cause : StopCause (opening_with disk old workers most) (pays_in (readings_in cut)) history (disk.faults new) stop
 
-  -- the texts over what was answered, with messages that are valid under the tables, or why there are none
+  -- the texts over what was answered, with messages that are valid under the tables
+  pub record HasDayTexts (texts : Texts) : Type 0 where
+    pub bytes : List ℕ
+    pub cut : List (List ℕ)
+    pub history : List Entry
+    pub replies : List Reply
+    pub day : HasDay bytes cut history replies
+    pub report_is : texts.report ≡ report_of old.accounts history replies
+    pub out_is : texts.out ≡ sent_from old.accounts (length old.base + 1) history
+    pub valid : AreSentValid directory.tables old.accounts (length old.base + 1) history
+
+  -- the texts, or why there are none
   abbrev pub GivesDay : Result Texts Status → Type 0
-  GivesDay (Ok texts) = (bytes : List ℕ) × (cut : List (List ℕ)) × (history : List Entry) × (replies : List Reply) × HasDay bytes cut history replies
-      × (texts.report ≡ report_of old.accounts history replies) × (texts.out ≡ sent_from old.accounts (length old.base + 1) history)
-      × AreSentValid directory.tables old.accounts (length old.base + 1) history
+  GivesDay (Ok texts) = HasDayTexts texts
   GivesDay (Err s) = HasNoDay s ⊎ (StopsAtFile s ⊎ StopsAtPays s)

@@ -1,11 +1,11 @@
 -- What workers make of messages over books, and what of it stands when the books are closed.
 use Rattle.std.specs.Prelude.{◌≡◌, ◌⊎◌, ℕ, All, IfErr, IfOk, List, [], ◌++◌, length, Option, None, Some, Result, Ok, Err, slice_get, map, take}
-use mathlib.Core.List.{IsPrefix}
 use Rattle.corr_disk.specs.declared.disk.Disk as disks
 use Rattle.corr_ids.specs.declared.mir.Mir.{Mir}
+use Rattle.corr_text.specs.Faults.{Rose}
 use Rattle.corr_books.specs.Closing.{LeavesClosed, LeavesInTurn}
 use Rattle.corr_books.specs.Opening.{Opening}
-use Rattle.corr_books.specs.Telling.{ShowsFull, Told}
+use Rattle.corr_books.specs.Telling.{Told}
 use Rattle.day_model.specs.declared.entry.Entry.{Entry}
 use Rattle.day_model.specs.declared.pay.Pay.{Pay}
 use Rattle.day_model.specs.declared.reply.Reply.{Reply}
@@ -25,7 +25,7 @@ use Rattle.corr_top.specs.declared.desk.Served.TheVariants as served
 use Rattle.corr_top.specs.inner.Workers.{Worker}
 use Rattle.corr_top.specs.declared.message.NoPay.{NoPay}
 use Rattle.corr_top.specs.declared.serving.ServedDay.{ServedDay}
-use Rattle.corr_top.specs.Booking.{BeginsNew, EntersFront, IsEnteredOn, LacksRoom}
+use Rattle.corr_top.specs.Booking.{BeginsNew, EntersFront, HadNoRoom, IsEnteredOn, LacksRoom}
 use Rattle.corr_top.specs.Message.{pays_in, reply_for, message_reply}
 
 -- an entry's pay has the shape of what is written down
@@ -40,7 +40,7 @@ served_of mir (Ok (New place outcome)) = served.Reply (reply.Entered mir place)
 served_of mir (Ok (Kept place outcome)) = served.Reply (reply.Entered mir place)
 served_of mir (Err (fault.Conflict place)) = served.Reply (reply.Conflict mir place)
 served_of mir (Err (fault.Full entries end need)) = served.Full entries end need
-served_of mir (Err (fault.DiskFault before after)) = served.Stopped halt.Disk
+served_of mir (Err (fault.DiskFault before after)) = served.Stopped (halt.Disk before after)
 served_of mir (Err (fault.Broken at_open now)) = served.Stopped halt.Broken
 served_of mir (Err fault.Memory) = served.Stopped halt.Memory
 
@@ -70,21 +70,18 @@ starting pass = record { pass = pass; halted = None }
 
 -- ---- a message, when the books are closed
 
--- A message asks for a pay that found no room: not in a history that goes on from the opening, and with which the history at the
--- end begins; the numbers are those of that history.
-pub record IsShort (o : Opening) (history : List Entry) (reading : Result Pay NoPay) (entries end need : ℕ) : Type 0 where
-  pub pay : Pay
-  pub asks : reading ≡ Ok pay
-  pub front : List Entry
-  pub from : IsPrefix o.base front
-  pub begins : IsPrefix front history
-  pub shows : ShowsFull o pay front entries end need
+-- Why a worker stopped: a disk that failed tells its count of faults when the books were opened, and one more; else nothing is told.
+abbrev pub TellsHalt : Opening → Halt → Type 0
+TellsHalt o (halt.Disk before after) = (before ≡ o.at_open) × Rose before after
+TellsHalt o halt.Broken = Unit {0}
+TellsHalt o halt.Memory = Unit {0}
 
--- What was made of a message, by the history at the end. A reply is the one after that history; a worker that stopped tells nothing.
+-- What was made of a message, by the history at the end. A reply is the one after that history; where there was no room, its pay had none;
+-- a worker that stopped tells why.
 abbrev pub IsTold : Opening → List Entry → Result Pay NoPay → Served → Type 0
 IsTold o history reading (served.Reply told) = message_reply history reading ≡ Some told
-IsTold o history reading (served.Full entries end need) = IsShort o history reading entries end need
-IsTold o history reading (served.Stopped why) = Unit {0}
+IsTold o history reading (served.Full entries end need) = (pay : Pay) × (reading ≡ Ok pay) × HadNoRoom o.accounts o.base o.day history pay entries end need
+IsTold o history reading (served.Stopped why) = TellsHalt o why
 
 -- each message was served, in the order of the messages
 pub record AreTold (o : Opening) (history : List Entry) (readings : List (Result Pay NoPay)) (made : List Served) : Type 0 where
@@ -110,7 +107,13 @@ IsTried (served.Stopped why) = ⊥
 
 -- one of them says that the disk failed over its pay
 abbrev pub SaysFailed : List Served → Type 0
-SaysFailed made = (at : ℕ) × (slice_get made at ≡ Some (served.Stopped halt.Disk))
+SaysFailed made = (at : ℕ) × (before : ℕ) × (after : ℕ) × (slice_get made at ≡ Some (served.Stopped (halt.Disk before after)))
+
+-- the first that says so tells these counts of the disk's faults
+pub record IsFirstFailed (made : List Served) (before after : ℕ) : Type 0 where
+  pub at : ℕ
+  pub there : slice_get made at ≡ Some (served.Stopped (halt.Disk before after))
+  pub ahead : SaysFailed (take at made) → ⊥
 
 -- A front part of these pays was entered, but those without room: all of them were tried where each message was answered or found
 -- no room; where the disk failed over a pay, it is the first after them, and is not entered.

@@ -1,5 +1,5 @@
 -- The message file as a stream: what is known of it while it is read in pieces, cut, and given in batches.
-use Rattle.std.specs.Prelude.{◌≡◌, ◌⊎◌, ℕ, ◌≤◌, All, Bool, false, true, List, [], ◌∷◌, Option, drop, length, take, vec_capacity, vec_len}
+use Rattle.std.specs.Prelude.{◌≡◌, ◌⊎◌, ℕ, ◌+◌, ◌≤◌, All, Bool, false, true, List, [], ◌∷◌, ◌++◌, Option, drop, length, take, vec_capacity, vec_len}
 use Rattle.std.specs.Io.KnownBytes.{Consumes}
 use Rattle.corr_io.specs.declared.source.Source as sources
 use Rattle.corr_text.specs.Faults.{Rose}
@@ -28,12 +28,18 @@ abbrev pub batches_of : List ℕ → List (List ℕ) → List (List (List ℕ))
 batches_of [] messages = []
 batches_of (n ∷ sizes) messages = take n messages ∷ batches_of sizes (drop n messages)
 
+-- these bytes are the first that were read of a source: all, but for some last ones for which there was no memory
+pub record HasFirst (before after : Option (List ℕ)) (bytes : List ℕ) : Type 0 where
+  pub lost : List ℕ
+  pub taken : Consumes before after (bytes ++ lost)
+  pub short : length (bytes ++ lost) ≤ most_message_bytes + 1
+
 -- the bytes that were read are the whole file, of these messages, and its source didn't fail; or they show that these, its first ones, are
 -- whole
 abbrev pub AreShown : Option (List ℕ) → ℕ → Option (List ℕ) → ℕ → List ℕ → List (List ℕ) → Type 0
 AreShown left faults left_now faults_now bytes messages =
     (IsRead most_message_bytes left left_now bytes × (faults_now ≡ faults) × IsMessageFile bytes messages)
-    ⊎ ((rest : Option (List ℕ)) × Consumes left rest bytes × ShowWhole bytes messages)
+    ⊎ (HasFirst left left_now bytes × ShowWhole bytes messages)
 
 -- how the file stops, where its source had this left and this count of faults at first: the source failed; it was read whole, or past
 -- its limit, and is no message file; or memory ran out

@@ -2,7 +2,6 @@
 use Rattle.std.specs.Prelude.{◌≡◌, List, [], ◌∷◌}
 use Rattle.corr_io.specs.declared.source.Source as sources
 use Rattle.corr_ids.specs.declared.bic.Bic.{Bic}
-use Rattle.day_model.specs.declared.fault.AccountsFault.{AccountsFault}
 use Rattle.day_model.specs.Chart.{Chart}
 use Rattle.ref_tables.specs.declared.fault.TableName.TheVariants as names
 use Rattle.ref_tables.specs.Seen.{Tables as Known}
@@ -12,9 +11,9 @@ use Rattle.corr_top.specs.declared.status.Status.{Status}
 use Rattle.corr_top.specs.declared.tables.TableStop.{TableStop}
 use Rattle.corr_top.specs.Changed.{lent_in}
 use Rattle.corr_top.specs.Inputs.{Inputs, chart_in, directory_in, tables_in}
-use Rattle.corr_top.specs.Passing.{Balances, IsFine, StopsAtSums, StopsAtTable, table_fault, table_file, table_at}
+use Rattle.corr_top.specs.Passing.{Balances, PassesTable, StopsSums, StopsTable, table_at}
 use Rattle.corr_top.specs.Steps.{Halts, Step, Walks}
-use Rattle.corr_top.specs.Stops.{status_of_sums, status_of_table}
+use Rattle.corr_top.specs.Stops.{status_of_table}
 
 -- the tables of banks and currencies
 abbrev pub lent_steps : List Step
@@ -35,15 +34,14 @@ account_steps = Step.table names.Bics ∷ Step.table names.Ccys ∷ Step.table n
 module _ {S : Type 0} (source : sources.Ghosts S) (old new : Tables S) where
   -- these steps over the tables alone
   abbrev pub PassesTables : Inputs → Step → Type 0
-  PassesTables i (Step.table name) = IsFine source (table_at name old) (table_at name new) (table_file name i) (table_fault name i)
+  PassesTables i (Step.table name) = PassesTable source old new i name
   PassesTables i Step.sums = Balances i
   PassesTables i _ = ⊥
 
   -- one of these steps stopped with this status: the fault of its table, or openings that don't sum to 0
   abbrev pub StopsAtTables : Inputs → Status → Step → Type 0
-  StopsAtTables i s (Step.table name) =
-      (stop : TableStop) × (s ≡ status_of_table stop) × StopsAtTable source (table_at name old) (table_at name new) (table_file name i) (table_fault name i) stop
-  StopsAtTables i s Step.sums = (stop : AccountsFault) × (s ≡ status_of_sums stop) × StopsAtSums i stop
+  StopsAtTables i s (Step.table name) = StopsTable source old new i s name
+  StopsAtTables i s Step.sums = StopsSums i s
   StopsAtTables i s _ = ⊥
 
   -- the table of this step is as it was

@@ -1,5 +1,5 @@
 -- What `run` and `batch` promise.
-use Rattle.std.specs.Prelude.{ℕ, ◌≡◌, ◌⊎◌, ◌+◌, Bool, true, false, All, IsSome, List, [], length, map, Some, Result}
+use Rattle.std.specs.Prelude.{ℕ, ◌≡◌, ◌⊎◌, ◌+◌, ◌≤◌, Bool, true, false, All, IsSome, List, [], length, map, take, Some, Result}
 use Rattle.std.specs.List.{Contains}
 use Rattle.corr_books.specs.Moments.{StandsBetween, StandsWithMore}
 use Rattle.corr_disk.specs.declared.disk.Disk as disks
@@ -19,7 +19,7 @@ use Rattle.corr_top.specs.declared.status.Status.{Status}
 use Rattle.corr_top.specs.declared.status.Status.TheVariants.{Framing, Memory, ReadFault, TooLarge}
 use Rattle.corr_top.specs.Inputs.{Inputs, directory_in, tables_in}
 use Rattle.corr_top.specs.Message.{message_reply, pays_in, readings_of}
-use Rattle.corr_top.specs.MessageFile.{IsMessageFile}
+use Rattle.corr_top.specs.MessageFile.{IsMessageFile, most_message_bytes, most_messages}
 use Rattle.corr_top.specs.OnDisk.{up_to}
 use Rattle.corr_top.specs.Origin.{AreSentValid}
 use Rattle.corr_top.specs.Out.{sent_from}
@@ -37,9 +37,11 @@ ends_early (Framing at) = true
 ends_early Memory = true
 ends_early _ = false
 
--- these are the messages of a file; or, at such a status, its first ones, which it shows to be whole
+-- these are the messages of a file; or, at such a status, its first ones, which it shows to be whole within the bytes that one may have, and
+-- one, and no more than one may have
 abbrev pub AreOfFile : Status → List ℕ → List (List ℕ) → Type 0
-AreOfFile s file cut = IsMessageFile file cut ⊎ ((ends_early s ≡ true) × ShowWhole file cut)
+AreOfFile s file cut = IsMessageFile file cut
+    ⊎ ((ends_early s ≡ true) × (length cut ≤ most_messages) × ShowWhole (take (most_message_bytes + 1) file) cut)
 
 module _ {S K D : Type 0} (sink : sinks.Ghosts K) (disk : disks.Ghosts D) (old new : Room S K D) (s : Status) where
   -- each message of the file has its reply, each pay its entry; one worker books in the file's order; what is sent is valid

@@ -1,10 +1,15 @@
-use Rattle.std.proofs.Common.{◌+◌, List, subst, arith}
-use Rattle.std.proofs.lemmas.List.{take_all}
-use Rattle.day_model.specs.declared.entry.Entry.{Entry}
-use Rattle.corr_top.specs.inner.Origin.{SendsAccepted}
+use Rattle.std.proofs.Common.{◌+◌, arith}
+use Rattle.corr_top.proofs.SideBySide.{sent_whole}
 use Rattle.corr_top.proofs.run.make_texts.Goals as goal
 
+pub returns-clause-out : goal.returns-clause-out
+returns-clause-out g c =
+    let count = c.len.ensures.count in
+    let all = sent_whole c.args.a.now c.args.h.now.entries (c.args.count + 1) c.len.result _ (omega (arith, count)) c.in_ok-outgoing_by.ensures in
+    all.0
+
 pub returns-clause-accepted : goal.returns-clause-accepted
-returns-clause-accepted c =
-    let entries = c.args.h.now.entries in
-    subst (λ (es : List Entry). SendsAccepted c.args.a.now (c.args.count + 1) es) (take_all c.len.result entries (omega (arith, c.len.ensures.count))) c.in_ok-outgoing.ensures.accepted
+returns-clause-accepted g c =
+    let count = c.len.ensures.count in
+    let all = sent_whole c.args.a.now c.args.h.now.entries (c.args.count + 1) c.len.result _ (omega (arith, count)) c.in_ok-outgoing_by.ensures in
+    all.1

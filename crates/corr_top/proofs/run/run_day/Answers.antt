@@ -9,7 +9,7 @@ use Rattle.corr_top.proofs.run.run_day.Goals as goal
 
 -- there was no memory for the books or the first piece of the file
 pub returns-in-Err : goal.returns-in-Err
-returns-in-Err g c = inl (record { status_is = c.from.ensures; kept = c.in-Err.ensures.err.0; same = c.in-Err.ensures.err.1 })
+returns-in-Err g c = inl (record { status_is = c.from.ensures; unread = c.in-Err.ensures.err.0; same = c.in-Err.ensures.err.1 })
 
 counted_is : (n : ℕ) (history base : List Entry) → n ≡ length history → history ≡ base → n ≡ length base
 counted_is n history base is same = is ∙ ap (λ (es : List Entry). length es) same
@@ -18,17 +18,17 @@ no_longer_than : (n : ℕ) (base added history : List Entry) → n ≡ length ba
 no_longer_than n base added history is same = let l = length-append base added in let e = ap (λ (es : List Entry). length es) same in omega (arith, is, l, e)
 
 pub end_day-requires-clause-places : goal.end_day-requires-clause-places
-end_day-requires-clause-places g c =
+end_day-requires-clause-places g c κs within =
     let opened = c.args.opened in
     let s = c.in-Ok.ensures.served in
     places_in g.D.Disk (opening_with g.D.Disk opened c.args.workers c.args.entries) (past_of g.D.Disk opened) (readings_of c.args.directory.now opened.accounts s.given) c.in-Ok.day.day s.served
 
 pub end_day-requires-clause-few : goal.end_day-requires-clause-few
-end_day-requires-clause-few g c =
+end_day-requires-clause-few g c κs within =
     let opened = c.args.opened in
     let s = c.in-Ok.ensures.served in
     let left = s.served.left in
-    let few = s.few in (
+    let few = s.are_given.few in (
       no_longer_than c.len-count.result opened.base left.added c.in-Ok.day.day.closed.history.entries (counted_is c.len-count.result c.history.result.now.entries opened.base c.len-count.ensures.count c.history.ensures) left.is,
       few_made g.D.Disk (opening_with g.D.Disk opened c.args.workers c.args.entries) (past_of g.D.Disk opened) (readings_of c.args.directory.now opened.accounts s.given) c.in-Ok.day.day s.served 50000
           (let l = length-map s.given (pay_asked_of c.args.directory.now opened.accounts) in omega (arith, l, few)),

@@ -1,12 +1,10 @@
 use Rattle.std.proofs.Common.{◌≡◌, ◌++◌, ℕ, List, Option, length, map, sym, ap, ◌∙◌, subst, arith}
 use Rattle.std.specs.Prelude.{slice_get, sum, take}
 use Rattle.std.proofs.lemmas.List.{length-map}
-use Rattle.corr_books.specs.Closing.{Closes}
 use Rattle.corr_books.specs.Opening.{Opening, opening_with}
 use Rattle.corr_books.specs.Passes.{Belongs}
 use Rattle.corr_books.specs.Stand.{entries_of}
 use Rattle.day_model.specs.Chart.{AreBy, Chart}
-use Rattle.front_word.specs.Known.{PassKnows}
 use Rattle.jrn_book.specs.Journal.{IsJournal}
 use Rattle.work_pool.specs.Fed.{AreFed}
 use Rattle.corr_top.specs.declared.desk.Served.{Served}
@@ -23,7 +21,7 @@ use Rattle.corr_top.proofs.Batched.{carried}
 use Rattle.corr_top.proofs.Batches.{unmapped}
 use Rattle.corr_top.proofs.FedDay.{at_end, each_added, entered_front, in_order, told_all}
 use Rattle.corr_top.proofs.FedWorkers.{ServesBatch}
-use Rattle.corr_top.proofs.StreamDay.{are_given, ends_at, first_few, given_messages, over_if}
+use Rattle.corr_top.proofs.StreamDay.{ends_at, given_messages, over_if}
 use Rattle.corr_top.proofs.serving.serve_fed.Goals as goal
 
 pub seat-requires-clause-room : goal.seat-requires-clause-room
@@ -45,28 +43,23 @@ run_feed-passes-requires-clause-taken g c κs within k worker at =
     let u = unmapped starting c.in-Ok-books.made.1.items k worker (ap (λ (ws : List Worker). slice_get ws k) (sym c.seat.ensures) ∙ at) in
     subst (λ (w : Worker). Belongs g.N.BooksName.opening w.pass) u.2 (c.in-Ok-books.ensures.passes.each k u.0 u.1).belongs
 
-pub vacate-requires-clause-room : goal.vacate-requires-clause-room
-vacate-requires-clause-room g c =
+pub close_desk-closed-requires-clause-room : goal.close_desk-closed-requires-clause-room
+close_desk-closed-requires-clause-room g c =
     let count = c.in-Ok-books.ensures.passes.count in
     let made = ap (λ (x : Opening). x.made) c.requires.named.opening_is in
     let seated = ap length c.seat.ensures ∙ length-map c.in-Ok-books.made.1.items starting in
     let came = c.run_feed-passes.ensures.fed.2.passes in
     omega (arith, count, made, seated, came, c.in-Ok.ensures.passes.1)
 
-pub close-requires : goal.close-requires
-close-requires g c = record {
-  passes = λ k p at.
-      let u = unmapped (λ (w : Worker). w.pass) c.run_feed-passes.result.passes.items k p (ap (λ (ps : List PassKnows). slice_get ps k) (sym c.vacate.ensures) ∙ at) in
-      subst (Belongs g.N.BooksName.opening) u.2 (c.run_feed-passes.ensures.taken k u.0 u.1);
-}
+pub close_desk-closed-requires-clause-passes : goal.close_desk-closed-requires-clause-passes
+close_desk-closed-requires-clause-passes g c = c.run_feed-passes.ensures.taken
 
-pub unreachable-requires : goal.unreachable-requires
-unreachable-requires g c =
+pub close_desk-closed-requires-clause-all : goal.close_desk-closed-requires-clause-all
+close_desk-closed-requires-clause-all g c =
     let count = c.in-Ok-books.ensures.passes.count in
     let seated = ap length c.seat.ensures ∙ length-map c.in-Ok-books.made.1.items starting in
     let came = c.run_feed-passes.ensures.fed.2.passes in
-    let given : length c.vacate.new.passes.items ≡ length c.run_feed-passes.result.passes.items = ap length c.vacate.ensures ∙ length-map c.run_feed-passes.result.passes.items (λ (w : Worker). w.pass) in
-    c.in-Err-close.ensures.fault.1 (omega (arith, count, seated, came, given))
+    omega (arith, count, seated, came)
 
 pub returns-clause-served : goal.returns-clause-served
 returns-clause-served g c =
@@ -89,11 +82,11 @@ returns-clause-served g c =
     subst (λ (x : List Worker × List (List (List ℕ))). AreFed (ServesBatch o reading batches) x.0 x.1 end.over after replies) (λ i. (c.seat.ensures i, sym jobs i)) c.run_feed-passes.ensures.fed.2 in
     let served = c.join_made-served.result in
     let kept = c.join_made-served.ensures in
-    let closed = c.in-Ok-close.closed in
-    let ends = c.in-Ok-close.ensures in
+    let closed = c.close_desk-closed.result in
+    let ends = c.close_desk-closed.ensures in
     let history = closed.history.entries in
     let faults = g.D.Disk.faults closed.disk in
-    let closes = subst (λ (ps : List PassKnows). Closes o history faults ps) c.vacate.ensures ends.closes in
+    let closes = ends.closes in
     let stream : IsStreamFrom source (source.left from) (source.faults from) end =
     subst (λ (x : Option (List ℕ) × ℕ). IsStreamFrom source x.0 x.1 end) (λ i. (c.requires.file.0 i, c.requires.file.1 i)) c.into_file.ensures.fed in
     let messages = messages_in batches in
@@ -114,11 +107,12 @@ returns-clause-served g c =
       turn = carried (λ m. all_made m.items) (λ v. v.items) (λ (l : List Served). o.made ≡ 1 → AreServedInOrder o history (map reading messages) l) replies served kept.made kept.ok (in_order o reading batches news after history faults new closes end.over replies fed by);
       front = entered_front o reading batches news after history faults new closes end.over replies fed by;
     } in
+    let ended = ends_at source from end stream c.into_file.ensures.over served whole in
     let all : StreamServed source g.D.Disk o g.N.BooksName.past (λ (ms : List (List ℕ)). map (pay_asked_of directory o.accounts) ms) from (record { day = record { closed = closed; served = served }; file = end.file }) = record {
+      bytes = ended.0;
       given = messages;
-      are_given = subst (λ (ms : List (List ℕ)). AreGiven source from end.file.source ms) (sym first) (are_given source from end stream);
-      few = (let fits = first_few source from end stream in let long = ap length first in omega (arith, fits, long));
-      ends = subst (λ (ms : List (List ℕ)). EndsAt source from end.file.source ms served end.file.stage) (sym first) (ends_at source from end stream c.into_file.ensures.over served whole);
+      are_given = subst (λ (ms : List (List ℕ)). AreGiven source from end.file.source ended.0 ms) (sym first) ended.1;
+      ends = subst (λ (ms : List (List ℕ)). EndsAt source from end.file.source ended.0 ms served end.file.stage) (sym first) ended.2;
       served = day;
     } in
     subst (λ (x : Opening × MessageFile g.row.S.Denot). StreamServed source g.D.Disk x.0 g.N.BooksName.past (λ (ms : List (List ℕ)). map (pay_asked_of directory x.0.accounts) ms) from (record { day = record { closed = closed; served = served }; file = x.1 }))
@@ -129,4 +123,4 @@ pub returns-in-Err-books-clause-err : goal.returns-in-Err-books-clause-err
 returns-in-Err-books-clause-err g c =
     let first = c.in-Ok-new.ensures.source in
     let file = c.into_file-source.ensures.file in
-    (ap (λ (f : _). g.S.Source.faults f.source) file ∙ ap g.S.Source.faults first, c.in-Err-books.ensures.disk)
+    (ap (λ (f : _). f.source) file ∙ first, c.in-Err-books.ensures.disk)

@@ -1,13 +1,11 @@
 use Rattle.std.proofs.Common.{◌≡◌, Result, List, map, sym, ap, ◌∙◌, subst, arith}
 use Rattle.std.specs.Prelude.{length, slice_get}
 use Rattle.std.proofs.lemmas.List.{length-map}
-use Rattle.corr_books.specs.Closing.{Closes}
 use Rattle.corr_books.specs.Opening.{Opening, opening_with}
 use Rattle.corr_books.specs.Passes.{Belongs}
 use Rattle.corr_books.specs.Stand.{entries_of}
 use Rattle.day_model.specs.declared.pay.Pay.{Pay}
 use Rattle.day_model.specs.Chart.{AreBy, Chart}
-use Rattle.front_word.specs.Known.{PassKnows}
 use Rattle.jrn_book.specs.Journal.{IsJournal}
 use Rattle.corr_top.specs.inner.Workers.{Worker}
 use Rattle.corr_top.specs.declared.message.NoPay.{NoPay}
@@ -39,8 +37,8 @@ run_jobs-worked-requires-clause-taken g c κs within k worker at =
     let u = unmapped starting c.in-Ok-books.made.1.items k worker (ap (λ (ws : List Worker). slice_get ws k) (sym c.seat.ensures) ∙ at) in
     subst (λ (w : Worker). Belongs g.N.BooksName.opening w.pass) u.2 (c.in-Ok-books.ensures.passes.each k u.0 u.1).belongs
 
-pub vacate-requires-clause-room : goal.vacate-requires-clause-room
-vacate-requires-clause-room g c =
+pub close_desk-closed-requires-clause-room : goal.close_desk-closed-requires-clause-room
+close_desk-closed-requires-clause-room g c =
     let o = g.N.BooksName.opening in
     let count = c.in-Ok-books.ensures.passes.count in
     let made = ap (λ (x : Opening). x.made) c.requires.named.opening_is in
@@ -50,25 +48,18 @@ vacate-requires-clause-room g c =
     let back = all_back o reading c.args.messages.now (λ v. all_made v.items) c.in-Ok-books.made.1.items c.seat.new.workers.items worked.result.passes.items c.seat.ensures worked.result.replies done worked.ensures.none in
     omega (arith, count, made, back, c.in-Ok.ensures.passes.1)
 
-pub close-requires : goal.close-requires
-close-requires g c = record {
-  passes = λ k p at.
-      let worked = c.run_jobs-worked in
-      let u = unmapped (λ (w : Worker). w.pass) worked.result.passes.items k p (ap (λ (ps : List PassKnows). slice_get ps k) (sym c.vacate.ensures) ∙ at) in
-      subst (Belongs g.N.BooksName.opening) u.2 (worked.ensures.taken k u.0 u.1);
-}
+pub close_desk-closed-requires-clause-passes : goal.close_desk-closed-requires-clause-passes
+close_desk-closed-requires-clause-passes g c = c.run_jobs-worked.ensures.taken
 
-pub unreachable-requires : goal.unreachable-requires
-unreachable-requires g c =
+pub close_desk-closed-requires-clause-all : goal.close_desk-closed-requires-clause-all
+close_desk-closed-requires-clause-all g c =
     let o = g.N.BooksName.opening in
     let count = c.in-Ok-books.ensures.passes.count in
     let worked = c.run_jobs-worked in
     let reading = pay_asked_of c.args.directory.now o.accounts in
     let done = done_of o reading c.seat.new.workers.items worked.result.passes.items c.in-Ok-share_out.batches.items c.args.messages.now c.in-Ok-share_out.ensures (λ v. v.items) worked.result.replies worked.ensures.served in
-    let after = worked.result.passes.items in
-    let back = all_back o reading c.args.messages.now (λ v. all_made v.items) c.in-Ok-books.made.1.items c.seat.new.workers.items after c.seat.ensures worked.result.replies done worked.ensures.none in
-    let given : length c.vacate.new.passes.items ≡ length after = ap length c.vacate.ensures ∙ length-map after (λ (w : Worker). w.pass) in
-    c.in-Err-close.ensures.fault.1 (omega (arith, count, back, given))
+    let back = all_back o reading c.args.messages.now (λ v. all_made v.items) c.in-Ok-books.made.1.items c.seat.new.workers.items worked.result.passes.items c.seat.ensures worked.result.replies done worked.ensures.none in
+    omega (arith, count, back)
 
 pub returns-clause-served : goal.returns-clause-served
 returns-clause-served g c =
@@ -87,11 +78,11 @@ returns-clause-served g c =
     let done = done_of o reading c.seat.new.workers.items worked.result.passes.items c.in-Ok-share_out.batches.items c.args.messages.now c.in-Ok-share_out.ensures (λ v. v.items) worked.result.replies worked.ensures.served in
     let served = c.served_of.result in
     let kept = c.served_of.ensures in
-    let closed = c.in-Ok-close.closed in
-    let ends = c.in-Ok-close.ensures in
+    let closed = c.close_desk-closed.result in
+    let ends = c.close_desk-closed.ensures in
     let history = closed.history.entries in
     let faults = g.D.Disk.faults closed.disk in
-    let closes = subst (λ (ps : List PassKnows). Closes o history faults ps) c.vacate.ensures ends.closes in
+    let closes = ends.closes in
     let read : map reading jobs ≡ readings_of directory c.args.opened.accounts jobs = ap (λ (x : Opening). map (pay_asked_of directory x.accounts) jobs) named in
     let all : AllServed g.D.Disk o g.N.BooksName.past (map reading jobs) (record { closed = closed; served = served }) =
     record {

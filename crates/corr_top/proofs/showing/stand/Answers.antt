@@ -1,4 +1,4 @@
-use Rattle.std.proofs.Common.{◌≡◌, List, Result, Ok, sym, ap, ◌∙◌}
+use Rattle.std.proofs.Common.{◌≡◌, ℕ, List, Result, Ok, sym, ap, ◌∙◌}
 use Rattle.corr_text.specs.declared.fault.Code.{Code}
 use Rattle.day_model.specs.Chart.{Chart}
 use Rattle.day_model.specs.Same.{reply_to}
@@ -10,8 +10,8 @@ use Rattle.corr_top.specs.inner.Asks.{unplaced}
 use Rattle.corr_top.specs.Message.{message_reply, unrouted}
 use Rattle.corr_top.proofs.showing.stand.Goals as goal
 
-pub returns-in_ok-pay-in-Ok-clause-value : goal.returns-in_ok-pay-in-Ok-clause-value
-returns-in_ok-pay-in-Ok-clause-value g c =
+pub returns-in-Ok-clause-value : goal.returns-in-Ok-clause-value
+returns-in-Ok-clause-value g c =
     let directory = c.args.directory.now in
     let envelope = c.args.envelope.now in
     let text = c.args.text.now in
@@ -19,7 +19,8 @@ returns-in_ok-pay-in-Ok-clause-value g c =
     let pay = c.in_ok-pay-in-Ok.pay in
     let accounts = c.accounts-accounts.result.now in
     let history = c.args.book.now.history in
-    let planned : plan_of envelope text (unplaced ask) directory.ssi directory.charges accounts ≡ Ok pay = c.in-Ok.ensures.plan ∙ ap (λ (p : Pay). Ok p) (sym c.in_ok-pay-in-Ok.ensures.value) in
+    let planned : plan_of envelope text (unplaced ask) directory.ssi directory.charges accounts ≡ Ok pay =
+    ap (λ (t : List ℕ). plan_of envelope t (unplaced ask) directory.ssi directory.charges accounts) (sym c.in_ok-lines.ensures) ∙ c.in-Ok.ensures.plan ∙ ap (λ (p : Pay). Ok p) (sym c.in_ok-pay-in-Ok.ensures.value) in
     let here : plan_of envelope text (unplaced ask) directory.ssi directory.charges c.args.book.now.accounts ≡ Ok pay =
     ap (λ (a : Chart). plan_of envelope text (unplaced ask) directory.ssi directory.charges a) (sym c.accounts-accounts.ensures.value) ∙ planned in
     c.standing_for.ensures.value

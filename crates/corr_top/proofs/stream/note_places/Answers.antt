@@ -4,7 +4,8 @@ use Rattle.std.proofs.lemmas.List.{map-append}
 use Rattle.std.proofs.lemmas.List.Elements.{All-append}
 use Rattle.fin_frame.specs.Pieces.{IsPlaceIn, at_place, at_places}
 use Rattle.fin_frame.specs.declared.place.Place.{Place}
-use Rattle.corr_top.proofs.OwnedBatches.{behind, places_behind}
+use Rattle.corr_top.specs.inner.Batching.{behind}
+use Rattle.corr_top.proofs.OwnedBatches.{places_behind}
 use Rattle.corr_top.proofs.StreamSteps.{behind_in}
 use Rattle.corr_top.proofs.stream.note_places.Goals as goal
 

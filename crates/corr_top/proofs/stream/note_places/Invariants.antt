@@ -1,5 +1,5 @@
 use Rattle.std.proofs.Common.{◌≡◌, ◌+◌, ◌≤◌, ◌++◌, length, map, take, vec_capacity}
-use Rattle.corr_top.proofs.OwnedBatches.{behind}
+use Rattle.corr_top.specs.inner.Batching.{behind}
 use Rattle.corr_top.proofs.stream.note_places.Given as goal
 
 -- so many places were put behind the others

@@ -82,7 +82,7 @@ book_all-requires-clause-few g c =
     let front = front_few readings all c.read_all.ensures.front in
     let long = length-map c.args.batch.now reading in
     let most = c.len-count.ensures.batch.few in
-    let named = c.len-count.ensures.batch.named in
+    let named = c.requires.named in
     (omega (arith, pays, few, front, long, most), omega (arith, pays, few, front, long, named))
 
 -- and there is room for the answers to them
