@@ -36,6 +36,9 @@ pub const WHOLE: Failing = Failing {
     out: 0,
 };
 
+// The place of the message file, behind the tables.
+const MESSAGES: usize = 6;
+
 // The place of the file of messages that leave, behind the others.
 const SENT: usize = 8;
 
@@ -96,7 +99,7 @@ fn room<D: Disk + Drop>(
 ) -> Result<Room<MemSource, MemSink, D>, Memory> {
     Ok(Room {
         tables: tables(alloc, failing, files)?,
-        messages: source(alloc, failing, 6, files.messages)?,
+        messages: source(alloc, failing, MESSAGES, files.messages)?,
         received: source(alloc, WHOLE, 7, files.received)?,
         sent: source(alloc, failing, SENT, sent)?,
         report: sink(alloc, failing.report)?,
@@ -234,6 +237,27 @@ pub fn call_received<D: Disk + Drop>(
     leave(alloc, plain(alloc, texts.as_slice(), room))
 }
 
+/// A command over a disk and these bytes of the message file, of which this read fails.
+pub fn call_over<R: Wait + Threads + Sync, D: Disk + Drop + Send>(
+    rt: &R,
+    alloc: Global,
+    command: &[&[u8]],
+    messages: &[u8],
+    read: u64,
+    files: Files,
+    disk: D,
+) -> Result<Ended<D>, Memory> {
+    let texts = words(alloc, command)?;
+    let failing = Failing {
+        place: MESSAGES,
+        read,
+        ..WHOLE
+    };
+    let mut room = room(alloc, failing, files, b"", disk, None)?;
+    room.messages = source(alloc, failing, MESSAGES, messages)?;
+    leave(alloc, corr(rt, alloc, texts.as_slice(), room, &OpenGate))
+}
+
 /// A run of one worker over a disk.
 pub fn run<R: Wait + Threads + Sync, D: Disk + Drop + Send>(
     rt: &R,
@@ -259,6 +283,27 @@ pub fn journal<R: Wait + Threads + Sync>(
     let disk = long_lived(alloc, b"")?;
     let made = call(rt, alloc, &[b"init", b"HOMEUS33"], WHOLE, files, disk)?;
     Ok(made.disk.left())
+}
+
+// How many lines these bytes have.
+fn lines(bytes: &[u8]) -> u64 {
+    let mut lines = 0u64;
+    for byte in bytes {
+        if *byte == b'\n' {
+            lines = lines.wrapping_add(1);
+        }
+    }
+    lines
+}
+
+/// How many entries `bookings` prints of a journal; none where it is refused.
+pub fn entries_in(alloc: Global, files: Files, journal: &[u8]) -> Result<Option<u64>, Memory> {
+    let disk = long_lived(alloc, journal)?;
+    let ended = call_plain(alloc, &[b"bookings"], files, disk)?;
+    if ended.status != Status::Done {
+        return Ok(None);
+    }
+    Ok(Some(lines(ended.report.bytes())))
 }
 
 /// The bytes of a new journal with the entries of a run of one worker.

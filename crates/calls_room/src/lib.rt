@@ -5,7 +5,7 @@ mod commands;
 mod days;
 
 pub use commands::{
-    Ended, Failing, Files, WHOLE, booked, call, call_after, call_at, call_between, call_plain,
-    call_received, is_done, journal, long_lived, run, wrote,
+    Ended, Failing, Files, WHOLE, booked, call, call_after, call_at, call_between, call_over,
+    call_plain, call_received, entries_in, is_done, journal, long_lived, run, wrote,
 };
 pub use days::{CHARGED, FILES, SENT};

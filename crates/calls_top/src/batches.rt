@@ -1,6 +1,6 @@
 //! Batches over disks that fail or stop: of what comes under one sync all entries stand, or none.
 
-use calls_room::{Ended, Files, WHOLE, call, call_plain, is_done, journal, long_lived, run, wrote};
+use calls_room::{Ended, Files, WHOLE, call, entries_in, is_done, journal, long_lived, run, wrote};
 use corr_disk::{Disk, FuseDisk, OnceDisk};
 use corr_text::{Memory, Text};
 use corr_top::Status;
@@ -56,27 +56,6 @@ fn is_refused<D: Disk + Drop>(ended: &Ended<D>) -> bool {
     ended.status == fault && wrote(ended, b"", b"")
 }
 
-// How many lines these bytes have.
-fn lines(bytes: &[u8]) -> u64 {
-    let mut lines = 0u64;
-    for byte in bytes {
-        if *byte == b'\n' {
-            lines = lines.wrapping_add(1);
-        }
-    }
-    lines
-}
-
-// How many entries `bookings` prints of a journal; none where it is refused.
-fn entries_in(alloc: Global, bytes: &Text) -> Result<Option<u64>, Memory> {
-    let disk = long_lived(alloc, bytes.bytes())?;
-    let ended = call_plain(alloc, &[b"bookings"], FILES, disk)?;
-    if ended.status != Status::Done {
-        return Ok(None);
-    }
-    Ok(Some(lines(ended.report.bytes())))
-}
-
 // How many entries stand after a stop. Two calls open the journal, and each batch takes four: the fourth and the eighth after those are
 // the second syncs, before which the gate may have arrived with its batch, or not.
 fn entries_after(stop: Stop) -> u64 {
@@ -105,7 +84,7 @@ fn leaves_whole_batches<R: Wait + Threads + Sync>(
     } else {
         ended.status == Status::Done
     };
-    Ok(told && entries_in(alloc, &ended.disk.left())? == Some(entries_after(stop)))
+    Ok(told && entries_in(alloc, FILES, ended.disk.left().bytes())? == Some(entries_after(stop)))
 }
 
 #[test]
@@ -155,7 +134,7 @@ fn is_made_good<R: Wait + Threads + Sync>(
         long_lived(alloc, bytes.bytes())?,
     )?;
     let told = ended.status == Status::Done && ended.report.bytes() == REPORT;
-    Ok(told && entries_in(alloc, &ended.disk.left())? == Some(4))
+    Ok(told && entries_in(alloc, FILES, ended.disk.left().bytes())? == Some(4))
 }
 
 // Whether what a batch leaves that is stopped twice is made good by the third.

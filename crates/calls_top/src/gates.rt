@@ -146,3 +146,17 @@ fn a_held_pay_holds_the_next_one_of_its_account(rt: HostRuntime) -> Result<(), F
     assert!(rt; !seen.late.load(SeqCst) && !seen.beside.load(SeqCst));
     Ok(())
 }
+
+// A single worker has all messages in one batch: each pay comes by itself, with the worker's number.
+#[test]
+fn each_pay_of_a_batch_comes_to_the_gate(rt: HostRuntime) -> Result<(), Fail> {
+    let seen = Seen::new();
+    let gate = MeetingGate {
+        at_once: 1,
+        seen: &seen,
+    };
+    assert!(rt; is_done(&rt, rt.alloc(), b"1", &gate)?);
+    assert_eq!(rt; seen.pays.load(SeqCst), 4);
+    assert!(rt; seen.workers() == [1, 1, 1, 1]);
+    Ok(())
+}

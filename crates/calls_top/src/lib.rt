@@ -10,6 +10,10 @@ mod faults;
 #[cfg(test)]
 mod gates;
 #[cfg(test)]
+mod leaving;
+#[cfg(test)]
+mod pieces;
+#[cfg(test)]
 mod reports;
 #[cfg(test)]
 mod statuses;
