@@ -44,7 +44,7 @@ pub fn legs_of(
     requires { IfSome charged.now.charge (λ c. c.amount.0 ≤ asked.now.amount.minor.0) }
     ensures { IfOk result (λ legs. legs ≡ legs_of way asked.now charged.now) }
 {
-    let mut legs = List::new(alloc);
+    let mut legs = List::with_room(alloc, if charged.charge.is_some() { 3 } else { 2 })?;
     legs.push(Leg {
         account: charged.routed.debit,
         side: Side::Debit,

@@ -72,6 +72,9 @@ fn push_notice(debited: &Account, orders: &mut List<Order>) -> Result<(), Memory
     })
 }
 
+/// How many messages most payments ask for at most; some ask for three.
+const MOSTLY: usize = 2;
+
 /// The messages that follow a payment, and last the notice to the bank whose vostro account is debited.
 pub fn orders_of(
     alloc: Global,
@@ -82,7 +85,7 @@ pub fn orders_of(
 ) -> Result<List<Order>, Memory>
     ensures { IfOk result (λ orders. orders ≡ orders_of way (target_lent target.entry) via debited.now) }
 {
-    let mut orders = List::new(alloc);
+    let mut orders = List::with_room(alloc, MOSTLY)?;
     if let LentTarget::Bank { bic, field } = target {
         push_next(way, bic, field, via, &mut orders)?;
     }
