@@ -2,6 +2,8 @@
 #![tactic(auto)]
 
 #[cfg(test)]
+mod ahead;
+#[cfg(test)]
 mod batches;
 #[cfg(test)]
 mod charges;
@@ -19,5 +21,7 @@ mod reports;
 mod statuses;
 #[cfg(test)]
 mod stops;
+#[cfg(test)]
+mod transfers;
 #[cfg(test)]
 mod versions;

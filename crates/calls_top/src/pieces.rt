@@ -1,5 +1,6 @@
 //! Message files of more than one piece: what stands in the first is answered before the next is read.
 
+use crate::transfers::transfers;
 use calls_room::{Ended, FILES, call_over, entries_in, journal, long_lived, wrote};
 use corr_disk::{FuseDisk, MemDisk};
 use corr_ids::Mir;
@@ -229,28 +230,47 @@ fn room<'a>(
     })
 }
 
-// The words of a run of two workers.
-fn words(alloc: Global) -> Result<List<Text>, Memory> {
-    let mut words = List::new(alloc);
-    words.push(Text::from_bytes(alloc, b"run")?)?;
-    words.push(Text::from_bytes(alloc, b"240603")?)?;
-    words.push(Text::from_bytes(alloc, b"2")?)?;
-    Ok(words)
+// These words as texts.
+fn texts(alloc: Global, words: &[&[u8]]) -> Result<List<Text>, Memory> {
+    let mut texts = List::new(alloc);
+    for word in words {
+        texts.push(Text::from_bytes(alloc, word)?)?;
+    }
+    Ok(texts)
 }
 
-// The second piece comes after the transfer of the first has passed the gate: so it is served while the file is read.
-#[test]
-fn a_message_is_served_before_the_next_piece_is_read(rt: HostRuntime) -> Result<(), Fail> {
-    let alloc = rt.alloc();
-    let messages = file(alloc, SECOND)?;
-    let disk = MemDisk::new(alloc, journal(&rt, alloc, FILES)?);
+// Whether a command comes to its end over a message file whose second piece comes after a pay has passed the gate.
+fn serves_before_it_reads_on<R: Wait + Threads + Sync>(
+    rt: &R,
+    alloc: Global,
+    words: &[&[u8]],
+    messages: &Text,
+) -> Result<bool, Memory> {
+    let disk = MemDisk::new(alloc, journal(rt, alloc, FILES)?);
     let seen = Seen::new();
     let none = Seen::new();
     none.passed.store(true, SeqCst);
     let room = room(alloc, messages.bytes(), disk, &seen, &none)?;
     let gate = TellingGate { seen: &seen };
-    let done = corr(&rt, alloc, words(alloc)?.as_slice(), room, &gate);
-    assert!(rt; done.status == Status::Done);
-    assert!(rt; seen.passed.load(SeqCst) && !seen.late.load(SeqCst));
+    let done = corr(rt, alloc, texts(alloc, words)?.as_slice(), room, &gate);
+    Ok(done.status == Status::Done && seen.passed.load(SeqCst) && !seen.late.load(SeqCst))
+}
+
+// The transfer of the first piece is served while the file is read.
+#[test]
+fn a_message_is_served_before_the_next_piece_is_read(rt: HostRuntime) -> Result<(), Fail> {
+    let alloc = rt.alloc();
+    let messages = file(alloc, SECOND)?;
+    assert!(rt; serves_before_it_reads_on(&rt, alloc, &[b"run", b"240603", b"2"], &messages)?);
+    Ok(())
+}
+
+// Two workers with batches of two read 31 messages ahead, and the first piece has 40.
+#[test]
+fn a_batch_is_served_before_the_next_piece_is_read(rt: HostRuntime) -> Result<(), Fail> {
+    let alloc = rt.alloc();
+    let messages = transfers(alloc, 80, 40, 7_000)?;
+    let words: [&[u8]; 4] = [b"batch", b"240603", b"2", b"2"];
+    assert!(rt; serves_before_it_reads_on(&rt, alloc, &words, &messages)?);
     Ok(())
 }
