@@ -231,7 +231,7 @@ pub fn limit_of(together: bool, entries: u32) -> u32
     if together { entries } else { MOST_MESSAGES }
 }
 
-/// The most messages of a batch, of those that it may have: of one worker all (`alone`). Several workers share the messages of a file, so
+/// The most messages of a batch, of those that it may have: of one worker all (`alone`). Several workers share so many messages, so
 /// that each has two batches and more; few messages are dealt one by one. No clause speaks of how they share them.
 pub fn share_of(count: usize, workers: u32, most: u32) -> usize
     requires workers { 1 ≤ workers }

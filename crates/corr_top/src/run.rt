@@ -184,7 +184,7 @@ fn run_day<R: Wait + Threads + Sync, S: Source + Drop, D: Disk + Drop + Send, G:
     }
 }
 
-/// Reads the tables of banks, currencies, countries and instructions, opens the journal, and lets the workers enter the pays of
+/// Reads the tables of banks, currencies, countries, instructions and charges, opens the journal, and lets the workers enter the pays of
 /// the message file's messages on a day, with up to so many entries under one sync. The texts are the report, and the outgoing
 /// messages of the entries that were added.
 pub fn run<

@@ -32,7 +32,8 @@ use std::thread::Threads;
 use work_pool::{Gate, Streamed, run_feed, run_jobs};
 
 /// What is left when messages were served: the closed books, and what became of each message, in the order of the messages. Where
-/// `served` is `Memory`, none was served.
+/// `served` is `Memory`, there was no room for that: none was served where the messages were all there, some may have been where they were
+/// served while their file was read.
 #[derive(Drop)]
 pub struct ServedDay<D: Disk> {
     pub closed: Closed<D>,
